@@ -63,7 +63,7 @@ impl Validator {
     /// out of memory, which says nothing about the files. Requires at least one file. Costs what `load`, `simplify` and
     /// `restrict` cost.
     ///
-    /// RELAX NG Specification, sections 4, 5 and 7; the limits are of the profile (docs/LANGUAGE.md).
+    /// RELAX NG Specification, sections 4, 5 and 7; the limits are of the profile (docs/use/LANGUAGE.md).
     pub fn compile(alloc: Global, files: &[(String, Vec<u8>)]) -> Result<Validator, SchemaFault>
         requires { 0 < length files.now }
         ensures compiled { IfOk result (λ v. IsOneFor (named_files files.now) (main_name files.now) v) }

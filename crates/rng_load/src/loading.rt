@@ -55,7 +55,7 @@ use std::alloc::Global;
 /// grammar with the way to it.
 ///
 /// RELAX NG Specification, sections 4.6, 4.7, 4.9, 4.11 and 4.18. The order and the limits are of the profile
-/// (docs/LANGUAGE.md).
+/// (docs/use/LANGUAGE.md).
 pub fn load(alloc: Global, files: &[(String, Vec<u8>)], main: &str) -> Result<Schema, SchemaFault>
     ensures { IsLoaded (named_files files.now) main.now result }
 {

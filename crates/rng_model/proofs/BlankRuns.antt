@@ -114,11 +114,11 @@ nothing_there (x ∷ xs) e none =
 pieces-after_blanks : (s : List ℕ) → pieces s ≡ pieces (drop (prefix_len is_blank_byte s) s)
 pieces-after_blanks s = ap pieces (sym (take-append-drop (prefix_len is_blank_byte s) s)) ∙ pieces-blanks _ _ (run_passes is_blank_byte s)
 
-some_bytes : (s : List ℕ) → (length s == 0) ≡ false → has_bytes s ≡ true
+pub some_bytes : (s : List ℕ) → (length s == 0) ≡ false → has_bytes s ≡ true
 some_bytes [] e = sym e
 some_bytes (x ∷ xs) e = refl
 
-no_bytes : (s : List ℕ) → (length s == 0) ≡ true → has_bytes s ≡ false
+pub no_bytes : (s : List ℕ) → (length s == 0) ≡ true → has_bytes s ≡ false
 no_bytes [] e = refl
 no_bytes (x ∷ xs) e = search rules
 

@@ -1,4 +1,4 @@
--- The answer of `run` about a schema that is refused (docs/LANGUAGE.md, "Answers").
+-- The answer of `run` about a schema that is refused (docs/use/LANGUAGE.md, "Answers").
 use Rattle.std.proofs.Common.{◌≡◌, ℕ, zero, suc, ◌<◌, List, [], ◌∷◌, ◌++◌, length, take, codes, refl, sym, ap, subst, inl, inr, arith, true≢false}
 use Rattle.std.specs.Prelude.{Option, Some, None, slice_get}
 use Rattle.std.specs.Str.{IsUtf8, IsValidUpTo, is_utf8, chars}
@@ -127,7 +127,7 @@ the_verdict = record {
   only_one (together_break k) (read, taken, b) = absurd (not_all_taken taken)
   only_one (are_taken read) (taken, b) = absurd (not_all_taken taken)
 
--- Each command answers about the file `s` that it breaks S3, whatever the input is (docs/LANGUAGE.md, S3).
+-- Each command answers about the file `s` that it breaks S3, whatever the input is (docs/use/LANGUAGE.md, S3).
 refused_s3 : (command : Command) (old new : Option (List ℕ)) → IsAnswer command files main old new (refused_file 3 main)
 refused_s3 command old new = file_refused the_verdict
 

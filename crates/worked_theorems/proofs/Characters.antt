@@ -50,7 +50,7 @@ is_the_character = record {
   decoded = next_is (escape {rest = []} {digits = 65 ∷ []} digit_A refl refl refl) (here refl) refl;
 }
 
--- it is no line end (docs/LANGUAGE.md, "Characters")
+-- it is no line end (docs/use/LANGUAGE.md, "Characters")
 begins_no_line_end : (c : Character) (after : List ℕ) → Begins escaped_line_feed c after → ¬ (c ≡ LineEnd)
 begins_no_line_end c after (carriage_return_line_feed e) same =
     let heads : ◌≡◌ {A = ℕ} 92 13 = ap first_of e in
@@ -85,7 +85,7 @@ no_digits (c ∷ cs) rest d e =
       not_hexadecimal : (c : ℕ) (cs : List ℕ) → c ≡ 125 → list_all (λ c. is_digit c 16) (c ∷ cs) ≡ true → false ≡ true
       not_hexadecimal c cs e h = rw e at h
 
--- no character begins at it, so it breaks S4 (docs/LANGUAGE.md, "Characters")
+-- no character begins at it, so it breaks S4 (docs/use/LANGUAGE.md, "Characters")
 bad_escape : BreaksCharactersAt without_digits 0
 unfolding lib.Utf8.encode
 bad_escape = record {

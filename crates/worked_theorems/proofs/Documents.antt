@@ -1,4 +1,4 @@
--- Documents in PYX (docs/LANGUAGE.md, "Documents: PYX"): a document that some lines are, and lines that break a clause.
+-- Documents in PYX (docs/use/LANGUAGE.md, "Documents: PYX"): a document that some lines are, and lines that break a clause.
 use Rattle.std.proofs.Common.{◌≡◌, ℕ, List, [], ◌∷◌, ◌++◌, codes, None, refl, true, ap, subst, sym, inl, inr, arith, true≢false}
 use Rattle.std.specs.Prelude.{◌≤◌, All}
 use Rattle.std.specs.Str.{is_utf8, chars, IsUtf8}
@@ -55,7 +55,7 @@ the_document = element_at 2 expanded_a [] (placed_and (text_at 3 (120 ∷ 10 ∷
 nothing_repeats : {A : Type 0} → ¬ (HasTwice {A = A} [])
 nothing_repeats r = elim r [ ]
 
--- they are the element `a` with the text x, line feed, y (docs/LANGUAGE.md, "Documents: PYX")
+-- they are the element `a` with the text x, line feed, y (docs/use/LANGUAGE.md, "Documents: PYX")
 three_lines_are : IsPyxDocument three_lines the_document
 unfolding lines chars is_utf8 lib.Utf8.encode
 three_lines_are = record {
@@ -92,7 +92,7 @@ its_events = refl
 
 -- ---- lines that break a clause
 
--- the second of the lines `(a`, `-\q` and `)a` breaks P5 (docs/LANGUAGE.md, P5)
+-- the second of the lines `(a`, `-\q` and `)a` breaks P5 (docs/use/LANGUAGE.md, P5)
 bad_escape : Breaks (whole (codes "(a") ∷ whole (45 ∷ 92 ∷ 113 ∷ []) ∷ whole (codes ")a") ∷ []) (record { clause = 5; line = 2 })
 bad_escape = at_line {before = whole (codes "(a") ∷ []} {behind = whole (codes ")a") ∷ []} (whole (45 ∷ 92 ∷ 113 ∷ [])) refl refl
     (clauses.within (leb-true 3 line_limit refl) (clauses.alone (pyx.bad_text refl no_such_escape)))
@@ -106,7 +106,7 @@ b_is_not_a e =
     let heads : ◌≡◌ {A = ℕ} 98 97 = ap first_of e in
     omega (arith, heads)
 
--- the second of the lines `(a` and `)b` breaks P8: the open element has another name (docs/LANGUAGE.md, P8)
+-- the second of the lines `(a` and `)b` breaks P8: the open element has another name (docs/use/LANGUAGE.md, P8)
 other_name : Breaks (whole (codes "(a") ∷ whole (codes ")b") ∷ []) (record { clause = 8; line = 2 })
 other_name = at_line {before = whole (codes "(a") ∷ []} {behind = []} (whole (codes ")b")) refl refl
     (clauses.within (leb-true 2 line_limit refl) (clauses.other_name {name = codes "b"} {opened_name = codes "a"} refl a_is_open refl b_is_not_a))
@@ -160,7 +160,7 @@ late_here : {l : Line} {behind : List Line} {clause : ℕ} → l ≡ xml_line �
 late_here e (clauses.too_long d) = omega arith
 late_here {behind = behind} {clause = clause} e (clauses.within w b) = late_between (subst (λ m. BreaksBetween [] m behind clause) e b)
 
--- the line `<a/>` breaks P4 at line 1, and no clause of a lesser number (docs/LANGUAGE.md, P4)
+-- the line `<a/>` breaks P4 at line 1, and no clause of a lesser number (docs/use/LANGUAGE.md, P4)
 xml_is_malformed : IsFirstFault (lines (codes "<a/>" ++ 10 ∷ [])) (record { clause = 4; line = 1 })
 unfolding lines
 xml_is_malformed = record { broken = is_broken; least = no_earlier } where

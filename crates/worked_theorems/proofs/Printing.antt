@@ -1,4 +1,4 @@
--- The printed text of a simple grammar (docs/LANGUAGE.md, "The simple form, printed").
+-- The printed text of a simple grammar (docs/use/LANGUAGE.md, "The simple form, printed").
 use Rattle.std.proofs.Common.{◌≡◌, ℕ, List, [], ◌∷◌, ◌++◌, codes, refl, sym, ap, true≢false, arith}
 use Rattle.std.specs.Prelude.{flat_map, decimal}
 use Rattle.std.proofs.lemmas.Fmt.{decimal_digit}
@@ -62,7 +62,7 @@ title_reached = in_line to_and_title_reached (1, omega arith, refl)
 body_reached : Reached (element 2)
 body_reached = in_line body_or_nothing_reached (0, omega arith, refl)
 
--- they are the numbering: e0, then p0 to p3, then e1 and e2 (docs/LANGUAGE.md, "The simple form, printed")
+-- they are the numbering: e0, then p0 to p3, then e1 and e2 (docs/use/LANGUAGE.md, "The simple form, printed")
 in_written_order : IsItemsOf letter items
 in_written_order = record {
   in_order = refl;

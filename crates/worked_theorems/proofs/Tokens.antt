@@ -83,7 +83,7 @@ keyword_text = record {
   are = refl;
 }
 
--- `##x` is a comment, as `#x` is, and has no tokens (docs/LANGUAGE.md, "Tokens")
+-- `##x` is a comment, as `#x` is, and has no tokens (docs/use/LANGUAGE.md, "Tokens")
 comment_has_no_tokens : HasTokens (characters (codes "##x")) []
 comment_has_no_tokens = record {
   pieces = gap (characters (codes "##x")) ∷ [];
@@ -163,7 +163,7 @@ nothing_begins other after (pieces.triple_segment quote q l f) e =
     true≢false (sym (subst (λ c. pieces.is_quote c ≡ true) (sym same) q))
 nothing_begins other after (pieces.sign {all = all} {s = s} f) e = no_sign all after e s f
 
--- it breaks S5 at its first character (docs/LANGUAGE.md, S5)
+-- it breaks S5 at its first character (docs/use/LANGUAGE.md, S5)
 angles_break : BreaksTokensAt two_angles 0
 unfolding lib.Utf8.encode
 angles_break = record {

@@ -4,20 +4,13 @@ use Rattle.std.specs.Char.{is_ascii_digit}
 use Rattle.std.specs.List.{list_all, prefix_len}
 use Rattle.std.specs.Str.Parse.{starts_with_minus}
 use Rattle.std.proofs.lemmas.Bool.{and_left, and_right, and_from}
+use Rattle.rng_model.proofs.BlankRuns.{some_bytes, no_bytes}
 use Rattle.rng_model.proofs.TestedRuns.{run_passes}
 use Rattle.rng_model.specs.datatypes.Texts.{is_blank_byte, is_blank, collapse, has_bytes}
 use Rattle.rng_model.specs.xsd.Numbers.{are_digits}
 use Rattle.rng_types.specs.plain.Runs.{from_run}
 use Rattle.rng_types.proofs.CollapsedBytes.{digits_alone, no_digit}
 use Rattle.rng_types.proofs.WordsOfTexts.{run_front}
-
-some_bytes : (s : List ℕ) → (length s == 0) ≡ false → has_bytes s ≡ true
-some_bytes [] e = sym e
-some_bytes (b ∷ s) e = refl
-
-no_bytes : (s : List ℕ) → (length s == 0) ≡ true → has_bytes s ≡ false
-no_bytes [] e = refl
-no_bytes (b ∷ s) e = search rules
 
 -- the digits that a text begins with, where it is all but blanks
 pub front_is : (s ds after : List ℕ) → ds ≡ take (prefix_len is_ascii_digit s) s → after ≡ drop (prefix_len is_ascii_digit s) s → is_blank after ≡ true

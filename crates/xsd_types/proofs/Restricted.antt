@@ -13,6 +13,7 @@ use Rattle.xsd_automaton.specs.views.WhiteSpace.{treated}
 use Rattle.xsd_patterns.specs.declared.patterns.Patterns.{Patterns}
 use Rattle.xsd_patterns.specs.Facet.{all_match, expressions_of}
 use Rattle.xsd_patterns.specs.views.Compiled.{AreCompiled, restricted}
+use Rattle.xsd_types.proofs.Values.{no_right}
 
 -- ---- texts
 
@@ -20,13 +21,9 @@ some_if : (b : Bool) (o : Option Value) → is_some (cond b o None) ≡ (is_some
 some_if true o = sym (and-true (is_some o))
 some_if false o = sym (and-false (is_some o))
 
-equal_none : (o : Option Value) → are_equal o None ≡ false
-equal_none None = refl
-equal_none (Some a) = refl
-
 equal_if : (b c : Bool) (o p : Option Value) → are_equal (cond b o None) (cond c p None) ≡ ((are_equal o p && b) && c)
 equal_if true true o p = sym (and-true (are_equal o p && true) ∙ and-true (are_equal o p))
-equal_if true false o p = equal_none o ∙ sym (and-false (are_equal o p && true))
+equal_if true false o p = no_right o ∙ sym (and-false (are_equal o p && true))
 equal_if false c o p = sym (ap (λ e. e && c) (and-false (are_equal o p)))
 
 module _ (p : Patterns) (meaning : Meaning) where

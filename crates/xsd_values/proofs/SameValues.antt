@@ -6,6 +6,7 @@ use Rattle.std.specs.Float.{nan, inf, fin}
 use Rattle.std.proofs.lemmas.Bool.{and_parts, and_from}
 use Rattle.std.proofs.lemmas.Bool.Decides.{Decides-eqb, Decides-int_eq}
 use Rattle.rng_model.specs.datatypes.Texts.{Value, text, truth, number, numbers, same_value}
+use Rattle.rng_model.proofs.Truths.{same_truth}
 use Rattle.rng_model.proofs.ValueLaws.{same_value-is, same_value-self}
 use Rattle.xsd_values.specs.Decimals.{Decimal, same_decimal}
 use Rattle.xsd_values.specs.Floats.{same_float}
@@ -105,11 +106,6 @@ duration_self a =
 
 -- ---- values: a test of the things themselves, and their values, from which each can be had again
 
-both_ways : (p q : Bool) → (p ≡ true → q ≡ true) → (q ≡ true → p ≡ true) → p ≡ q
-both_ways true q on back = sym (on refl)
-both_ways false true on back = back refl
-both_ways false false on back = refl
-
 module _ {A : Type 0} (value : A → Value) (from : Value → A) (again : (a : A) → from (value a) ≡ a) where
   same_thing : (a b : A) → same_value (value a) (value b) ≡ true → a ≡ b
   same_thing a b e = sym (again a) ∙ (ap from (same_value-is (value a) (value b) e) ∙ again b)
@@ -117,7 +113,7 @@ module _ {A : Type 0} (value : A → Value) (from : Value → A) (again : (a : A
   module _ (same : A → A → Bool) (is : (a b : A) → same a b ≡ true → a ≡ b) (self : (a : A) → same a a ≡ true) where
     same_if : (a b : A) → same_value (value a) (value b) ≡ same a b
     same_if a b =
-        both_ways (same_value (value a) (value b)) (same a b)
+        same_truth (same_value (value a) (value b)) (same a b)
         (λ e. subst (λ x. same a x ≡ true) (same_thing a b e) (self a))
         (λ e. subst (λ x. same_value (value a) (value x) ≡ true) (is a b e) (same_value-self (value a)))
 

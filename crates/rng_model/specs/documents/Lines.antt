@@ -1,4 +1,4 @@
--- The lines of a document in PYX, the limits on bytes, lines and elements (docs/LANGUAGE.md), lines by their first bytes,
+-- The lines of a document in PYX, the limits on bytes, lines and elements (docs/use/LANGUAGE.md), lines by their first bytes,
 -- and faults: a clause and a line each, and their order.
 use Rattle.std.specs.Prelude.{ℕ, ◌==◌, Bool, true, false, if◌then◌else◌, List, [], ◌∷◌, ◌≡◌, ◌<◌, ◌≤◌, ◌⊎◌, ◌++◌, All}
 

@@ -1,6 +1,6 @@
 -- Which clause of a document in PYX is broken at which line, and which fault is the least. First bytes alone decide
 -- which tags are open, and in which tag a line is. So no clause depends on another clause being kept.
--- (docs/LANGUAGE.md; Namespaces in XML 1.0, sections 3 to 6; XML 1.0, section 3.1)
+-- (docs/use/LANGUAGE.md; Namespaces in XML 1.0, sections 3 to 6; XML 1.0, section 3.1)
 use Rattle.std.specs.Prelude.{◌≡◌, ◌≢◌, ℕ, ◌+◌, ◌<◌, ◌≤◌, List, [], ◌∷◌, ◌++◌, Some, length, map, All}
 use Rattle.rng_model.specs.names.Lists.{Among, HasTwice}
 use Rattle.rng_model.specs.matching.Document.{Attribute, Distinct}

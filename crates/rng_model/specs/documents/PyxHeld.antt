@@ -1,6 +1,6 @@
 -- How many bytes of a document in PYX have to be kept after a front of its bytes: the line that has begun, the lines of
 -- the tag that is being read, the name and the declarations of each element that is open after its tag, and the text
--- that is joined so far. (docs/LANGUAGE.md)
+-- that is joined so far. (docs/use/LANGUAGE.md)
 use Rattle.std.specs.Prelude.{◌≡◌, ◌⊎◌, ℕ, ◌+◌, List, [], ◌∷◌, ◌++◌, Option, Some, None, true, false, length, sum_by, All}
 use Rattle.rng_model.specs.documents.Lines.{Line, lines, HasKind, EndsInTag}
 use Rattle.rng_model.specs.documents.PyxLines.{QName}

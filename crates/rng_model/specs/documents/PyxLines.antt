@@ -1,5 +1,5 @@
--- The meaning of a line of a document in PYX, and which clause a line breaks by itself: P1 to P6. Texts are lists of bytes. (docs/LANGUAGE.md; Namespaces in XML 1.0, sections 3 and 4; XML 1.0 Fifth Edition,
--- section 2.2)
+-- The meaning of a line of a document in PYX, and which clause a line breaks by itself: P1 to P6. Texts are lists of bytes.
+-- (docs/use/LANGUAGE.md; Namespaces in XML 1.0, sections 3 and 4; XML 1.0 Fifth Edition, section 2.2)
 use Rattle.std.specs.Prelude.{◌≡◌, ◌≢◌, ℕ, ◌≤◌, true, false, List, [], ◌∷◌, ◌++◌, Option, Some, None, length, All}
 use Rattle.std.specs.Str.{IsUtf8, chars}
 use Rattle.rng_model.specs.names.Names.{is_ncname, is_xml_char}

@@ -1,5 +1,5 @@
 -- Which lines are which document in PYX, and at which line each of its events comes.
--- (docs/LANGUAGE.md; RELAX NG Specification, section 2; XML 1.0, section 3.1; Namespaces in XML 1.0, section 6)
+-- (docs/use/LANGUAGE.md; RELAX NG Specification, section 2; XML 1.0, section 3.1; Namespaces in XML 1.0, section 6)
 use Rattle.std.specs.Prelude.{◌≡◌, ℕ, suc, ◌+◌, ◌≤◌, List, [], ◌∷◌, ◌++◌, length, map, All}
 use Rattle.rng_model.specs.names.Lists.{HasTwice}
 use Rattle.rng_model.specs.names.Names.{Name}
