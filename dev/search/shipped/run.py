@@ -123,6 +123,8 @@ class Jing:
         out, _ = output_of(["jing", "-i", *(["-c"] if schema.suffix == ".rnc" else []), schema.absolute(), *documents])
         about, faults, known = "", {}, set(documents)
         for line in filter(str.strip, out.split("\n")):
+            if line.startswith("[warning] "):  # by the script that starts it, about a jar that it can do without
+                continue
             told = JING_LINE.match(line)
             path = pathlib.Path(told["path"]) if told else None
             if path not in known:
