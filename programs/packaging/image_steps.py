@@ -4,7 +4,8 @@
     programs/packaging/image_steps.py [FOLDER]      (FOLDER, else build/package, is the context: it has the Debian package)
 
 This needs root, debootstrap, the network, and 500 MB below TMPDIR. It takes minutes. If it is not root, or if there is no debootstrap, a line says so, and
-the status is 0. Each step has its own root, but the network, the processes and the users of the machine.
+the status is 0. If a step fails, or the folder lacks the package, a line says so, and the status is 2. Each step has its own root, but the network, the
+processes and the users of the machine.
 """
 
 import json
@@ -102,6 +103,9 @@ def main(context: pathlib.Path) -> int:
     if os.geteuid() != 0 or not shutil.which("debootstrap"):
         print("image_steps.py: skipped: " + ("there is no debootstrap" if os.geteuid() == 0 else "this is not root"))
         return 0
+    if not any(context.glob("rncv_*.deb")):
+        print(f"image_steps.py: no rncv_*.deb in {context}: make deb makes it", file=sys.stderr)
+        return 2
     room = tempfile.mkdtemp()
     # also for what is no superuser in the root, such as apt
     os.chmod(room, 0o755)
@@ -111,6 +115,9 @@ def main(context: pathlib.Path) -> int:
             print(f"image_steps.py: {instruction} {rest}", flush=True)
             image.follow(instruction, rest)
         wrong = judged(image)
+    except (subprocess.CalledProcessError, OSError, ValueError) as error:
+        print(f"image_steps.py: {error}", file=sys.stderr)
+        return 2
     finally:
         # nothing of the machine that is mounted there
         subprocess.run(["rm", "-rf", "--one-file-system", room], check=False)

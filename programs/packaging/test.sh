@@ -144,6 +144,8 @@ debian_package() {
     [ -f "$room/unpacked/usr/lib/python3/dist-packages/rncv/__init__.py" ] || fail "the Python package is not where Debian's python3 finds it"
     mkdir "$room/someone"
     runs_judges "$room/unpacked/usr/share/doc/rncv/README.md" "$room/someone" "$room/unpacked" || fail "the programs of README.md behind the package"
+    same "the page that rncv-xml names" "$room/unpacked/usr/share/doc/rncv/docs/use/CLAUSES.md" \
+        "$("$room/unpacked/usr/bin/rncv-xml" "$top/examples/broken/s.rnc" | sed 's/.*, see //')"
     roots=$room/unpacked
     if [ "$(id -u)" = 0 ]; then
         installs_in "$room/empty root" && roots="$roots

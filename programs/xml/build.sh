@@ -42,7 +42,7 @@ hints="schema_pattern schema_types schema_tree schema_grammars schema_words sche
 merging="schema_walk schema_merging schema_merged_text"
 reading="two_threads paths schema_tokens annotation_names schema_annotations xml_names origins $rng catalogs schema_files schema_xml $merging"
 ids="text_table id_form id_types id_check schema_ids schema_context"
-judging="$reading $ids $hints options documents line_places judging probes progress formats report jobs"
+judging="$reading $ids $hints options clause_page documents line_places judging probes progress formats report jobs"
 converting="$reading $ids line_places judging probes"
 
 compile $shared xml2pyx

@@ -216,7 +216,7 @@ static void answer_broken(const struct judging *judging) {
         const char *title = rncv_clause_title('P', judging->verdict.clause);
         bytes_add_text(&answer->message, title == NULL ? "" : title);
     }
-    bytes_add_text(&answer->message, ", see docs/use/CLAUSES.md");
+    bytes_format(&answer->message, ", see %s", judging->judge->shared->page);
 }
 
 /* Answers `invalid`, and what is at the place. */

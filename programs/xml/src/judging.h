@@ -60,6 +60,7 @@ struct shared {
     uint32_t datatypes; /* the set that the schema was compiled with; if it is another one, words about a place may be others */
     struct streams streams;
     atomic_ullong bytes_read;
+    const char *page;  /* where the page about the clauses is */
     bool is_strict;    /* a document with a note is outside the profile */
     bool wants_earlier; /* an answer that is malformed or outside also says where the document was invalid before */
     bool loads_dtd;    /* external DTDs and entities are read, from files */

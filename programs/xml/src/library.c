@@ -1,6 +1,7 @@
 /* The library over the parts of rncv-xml. */
 #include "rncv_xml.h"
 
+#include "clause_page.h"
 #include "judging.h"
 #include "paths.h"
 #include "schema_annotations.h"
@@ -114,6 +115,7 @@ static int32_t hold(rncv_schema *schema, struct values *values, rncv_xml_judge *
     }
     held->values = values;
     held->answer = (struct answer)NO_ANSWER;
+    held->shared.page = CLAUSE_PAGE;
     held->shared.wants_earlier = true;
     held->shared.values = (const char *const *)values->list;
     held->shared.value_count = values->count;

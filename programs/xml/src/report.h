@@ -10,6 +10,7 @@ struct report {
     const struct options *options;
     struct output *output;
     struct progress *progress;
+    const char *page; /* where the page about the clauses is */
     bool has_color;
     bool has_begun; /* whether a result was printed */
     unsigned long long counts[VERDICT_FAILED + 1];

@@ -1,4 +1,5 @@
 /* rncv-xml: judges XML documents by a RELAX NG schema. */
+#include "clause_page.h"
 #include "jobs.h"
 #include "schema_context.h"
 #include "schema_datatypes.h"
@@ -10,7 +11,6 @@
 #include <string.h>
 #include <unistd.h>
 
-static const char page[] = "see docs/use/CLAUSES.md";
 static const char no_memory[] = "rncv-xml: out of memory";
 
 /* Prints a line that belongs to no file. */
@@ -97,7 +97,7 @@ static void report_refusal(struct report *report, struct schema_files *files, co
     if (found.clause == 12 && found.place.line == 0) {
         find_datatype(files, report->options->datatypes, &found);
     }
-    bytes_format(&message, ", %s", page);
+    bytes_format(&message, ", see %s", report->page);
     report_message(report, &found, &message);
     bytes_free(&message);
 }
@@ -358,13 +358,15 @@ static int run(const struct options *options, struct streams streams) {
     struct progress progress;
     struct report report;
     struct documents documents;
+    char room[4096];
+    const char *page = find_clause_page(room, sizeof room);
     struct shared shared = {.schema = RNCV_NOTHING, .datatypes = options->datatypes, .streams = streams, .is_strict = options->refuses_notes,
-                            .loads_dtd = options->loads_dtd,
-                            .tick = progress_tick, .context = &progress};
+                            .loads_dtd = options->loads_dtd, .page = page, .tick = progress_tick, .context = &progress};
     atomic_init(&shared.bytes_read, 0);
     documents_open(&documents, options, streams);
     progress_open(&progress, !options->is_quiet && isatty(2), documents.known, &shared.bytes_read);
     report_open(&report, options, &output, &progress);
+    report.page = page;
     judge_all(&report, &shared, &documents);
     report_close(&report);
     progress_close(&progress);
