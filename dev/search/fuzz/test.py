@@ -2,15 +2,19 @@
 """A quick test of the fuzz tool:   dev/search/fuzz/test.py [PROGRAM]
 
 Some cases of a fixed seed find nothing. In a program with a planted fault the fault is found, and the case is made small. The same holds of documents in
-XML, for the `rncv-xml` in the folder that RNCV_XML_PROGRAMS names.
+XML, and of expressions of the facet `pattern`, for the `rncv-xml` in the folder that RNCV_XML_PROGRAMS names.
 """
 import os
 import pathlib
+import random
 import subprocess
 import sys
 import tempfile
 import unittest
 
+import pattern_expressions
+import pattern_judges
+import pattern_reasons
 import xml_differences
 import xml_documents
 import xml_judges
@@ -45,6 +49,16 @@ for name; do
   case $name in *.xml) grep -q 'CDATA' "$name" && kill -SEGV $$ ;; esac
 done
 exec "$REAL_PROGRAM" "$@"
+"""
+# It calls each attribute with a `b` invalid.
+STRICT = """#!/bin/sh
+answer=$("$REAL_PROGRAM" "$@")
+status=$?
+printf '%s\\n' "$answer" | while read -r line; do
+  name=${line%%:*}
+  if grep -qs 'a="[^"]*b' "$name"; then echo "$name:1:1: invalid: b"; else printf '%s\\n' "$line"; fi
+done
+exit $status
 """
 
 
@@ -132,6 +146,74 @@ class XmlTest(unittest.TestCase):
             crashing.chmod(0o755)
             status, reported, found = self.judged(crashing, "--count", 20, "--mutants", 0, "--most", 1)
         self.assertEqual((status, found), (1, [b"CDATA"]), reported)
+
+
+class PatternsTest(unittest.TestCase):
+    """`patterns_run.py` without jing: Python's `re` judges beside rncv-xml."""
+
+    def test_sizes(self):
+        for pattern, size in (("", 1), ("|", 2), ("ab", 3), ("(a)", 3), ("(a|b)*", 6), ("a+", 4), ("a{0}", 3), ("a{2,}", 5), ("[a-z-[b]]{3,4}", 6),
+                              (r"\p{Lu}\[[\]\[]", 4), ("a{4094}", 4096)):
+            self.assertEqual(pattern_expressions.size(pattern), size, pattern)
+
+    def test_parts(self):
+        self.assertEqual(pattern_expressions.class_escapes(r"\\d\p{IsThai}[\W]\W\-"), [r"\p{IsThai}", r"\W"])
+        self.assertEqual(pattern_expressions.bracket_classes(r"[a-[b]]\[[\]]x"), ["[a-[b]]", r"[\]]"])
+
+    def test_that_a_seed_says_all(self):
+        kinds = set()
+        for number in range(60):
+            made = [pattern_expressions.made(random.Random(number)) for _ in range(2)]
+            self.assertEqual(made[0], made[1])
+            kinds.add(pattern_expressions.is_expression(made[0]))
+        self.assertEqual(kinds, {True, False})
+
+    def test_that_the_translation_agrees(self):
+        found = []
+        for pattern in (r"(a|b{2,3})*", r"[a-z-[aeiou]]+", r"\i\c*", r"[^\s\d]?", r"(x+x+)+y", "", "[a-[b-[c]]]."):
+            texts = pattern_expressions.texts_of(pattern, random.Random(pattern), 20)
+            wanted = ["valid" if pattern_expressions.matches(pattern, text) else "invalid" for text in texts]
+            self.assertEqual(pattern_judges.by_python(pattern, texts), wanted)
+            found += wanted
+        self.assertTrue(min(found.count("valid"), found.count("invalid")) > 30)
+        self.assertEqual(pattern_judges.by_python("(a*)*b", ["a" * 40]), ["too many steps"])
+
+    def test_reasons(self):
+        class Jing:
+            def holds(self, part, c):
+                return {r"\i": c.isalpha() and c < "\x7f", r"[^a\s]": True}.get(part)
+
+        self.assertEqual(pattern_reasons.of_jing_text(Jing(), r"\ib", "\xe9b"), "names")
+        self.assertEqual(pattern_reasons.of_jing_text(Jing(), r"[^a\s]", "a"), "negation")
+        self.assertIsNone(pattern_reasons.of_jing_text(Jing(), r"\ib", "ab"))
+        self.assertEqual([pattern_reasons.of_our_refusal(it, True) for it in ("a{4295000000}", "a{4095}", "a{4094}")], ["count", "size", None])
+        self.assertEqual(pattern_reasons.of_jing_refusal("[-a]", 'character "-" must be escaped'), "dash")
+        self.assertIsNone(pattern_reasons.of_jing_refusal("a-b", 'character "-" must be escaped'))
+
+    def judged(self, program):
+        with tempfile.TemporaryDirectory() as room:
+            run = subprocess.run([sys.executable, "-B", HERE / "patterns_run.py", "--no-jing", "--seed", "test", "--pairs", "1", "--most", "1",
+                                  "--program", program, "--found", pathlib.Path(room, "found")], capture_output=True, text=True, check=False,
+                                 env={**os.environ, "REAL_PROGRAM": str(RNCV_XML)})
+            return run.returncode, run.stdout + run.stderr
+
+    def test_that_nothing_differs(self):
+        if not RNCV_XML.exists():
+            self.skipTest(f"there is no {RNCV_XML}")
+        status, reported = self.judged(RNCV_XML)
+        self.assertEqual(status, 0, reported)
+        self.assertIn("0 differences without an explanation", reported)
+
+    def test_that_a_wrong_verdict_is_found_and_made_small(self):
+        if not RNCV_XML.exists():
+            self.skipTest(f"there is no {RNCV_XML}")
+        with tempfile.TemporaryDirectory() as room:
+            strict = pathlib.Path(room, "rncv-xml")
+            strict.write_text(STRICT)
+            strict.chmod(0o755)
+            status, reported = self.judged(strict)
+        self.assertEqual(status, 1, reported)
+        self.assertRegex(reported.splitlines()[0], r"^re: '.{1,20}' and '.{0,10}b.{0,10}': invalid, and by re valid$")
 
 
 if __name__ == "__main__":
