@@ -1,8 +1,10 @@
 #!/usr/bin/env python3
 """A quick test of the tools about limits:   dev/search/limits/test.py [PROGRAM]     (PROGRAM: the built rncv, else crates/rncv/out/rncv)
 
-They print a row of a table for an input, and find the least stack. A program that is missing, is slow or needs more stack than there is, is told.
+They print a row of a table for an input, and find the least stack. A program that is missing, is slow or needs more stack than there is, is told. Expressions
+are judged by the `rncv-xml` in the folder that RNCV_XML_PROGRAMS names, by default build/xml.
 """
+import os
 import pathlib
 import subprocess
 import sys
@@ -10,10 +12,12 @@ import tempfile
 import unittest
 
 import inputs
+import patterns
 import stack
 
 HERE = pathlib.Path(__file__).resolve().parent
 PROGRAM = HERE.parents[2] / "crates/rncv/out/rncv"
+RNCV_XML = pathlib.Path(os.environ.get("RNCV_XML_PROGRAMS", HERE.parents[2] / "build/xml")).resolve() / "rncv-xml"
 SMALL = "an empty element"
 
 
@@ -83,6 +87,28 @@ class LimitsTest(unittest.TestCase):
             files, document = make(0.01)
             self.assertTrue(files and all(isinstance(text, str) for text in (*files, document)), name)
             self.assertIn(stack_size, (None, 256))
+
+    def test_words_of_expressions(self):
+        for words, text in (("(a?)^2 a^3", "(a?)(a?)aaa"), ("U+61-U+65/2", "ace"), ("( U+61-U+63/1| )*", "(a|b|c)*"), ("", ""), ("a", "a")):
+            self.assertEqual(patterns.made(words), text)
+        self.assertRegex(patterns.made("ab~100"), "^[ab]{100}$")
+        self.assertEqual(patterns.made("ab~100"), patterns.made("ab~100"))
+
+    def test_rows_of_expressions(self):
+        if not RNCV_XML.is_file():
+            self.skipTest(f"no {RNCV_XML}")
+        for name, answers in (("plus-plus", 4), ("counts-in-counts", 2), ("groups-open", 1)):
+            out, errors, status = reported("patterns.py", "--no-jing", "--only", name, "--program", RNCV_XML)
+            self.assertEqual((errors, status, len(out.splitlines())), ("", 0, 2 + answers), out)
+        self.assertRegex(cells(out)[5], r"^\d+\.\d S12, \d+ MiB$")
+
+    def test_a_wrong_answer_about_an_expression(self):
+        program = self.script('case "$*" in *d.xml) echo "d.xml: valid";; esac')
+        out, _, status = reported("patterns.py", "--no-jing", "--only", "star-of-star", "--program", program)
+        self.assertEqual((out.splitlines()[-2:], status), ([f"{name}: rncv-xml: taken, valid, and the row says taken, invalid"
+                                                            for name in ("star-of-star", "star-of-star-long")], 1))
+        out, _, status = reported("patterns.py", "--no-jing", "--only", "plus-plus-long", "--seconds", "1", "--program", self.script("sleep 9"))
+        self.assertIn("| stopped | stopped |", out)
 
 
 if __name__ == "__main__":

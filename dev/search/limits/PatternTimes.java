@@ -7,10 +7,10 @@ import org.relaxng.datatype.DatatypeBuilder;
 /**
  * Times of jing's datatype `string` with the facet `pattern`, which is `java.util.regex` behind a translation:
  *
- *     java -cp jing.jar:FOLDER PatternTimes EXPRESSION TEXT
+ *     java -cp jing.jar:FOLDER PatternTimes EXPRESSION TEXT COUNT
  *
- * Both are files. It prints a line for the expression and one for the text: the milliseconds, and `taken` or `refused`, `valid` or `invalid`, or the name of an
- * error, such as StackOverflowError.
+ * The first two are files; the facet is written COUNT times. It prints a line for the expression and one for the text: the milliseconds, and `taken` or
+ * `refused`, `valid` or `invalid`, or the name of an error, such as StackOverflowError.
  */
 public class PatternTimes {
     static long start;
@@ -32,7 +32,9 @@ public class PatternTimes {
         Datatype datatype;
         start = System.nanoTime();
         try {
-            builder.addParameter("pattern", expression, null);
+            for (int time = 0; time < Integer.parseInt(words[2]); time++) {
+                builder.addParameter("pattern", expression, null);
+            }
             datatype = builder.createDatatype();
             told("taken");
         } catch (org.relaxng.datatype.DatatypeException fault) {
