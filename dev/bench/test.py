@@ -1,17 +1,28 @@
 #!/usr/bin/env python3
 """Quick tests of what the timers share:   dev/bench/test.py"""
 import contextlib
+import importlib.util
 import io
 import pathlib
+import re
 import sys
 import unittest
 
 sys.dont_write_bytecode = True
-sys.path.insert(0, str(pathlib.Path(__file__).resolve().parent))
+HERE = pathlib.Path(__file__).resolve().parent
+sys.path.insert(0, str(HERE))
 from measuring import Table, answer, below, spent, took, wanted  # noqa: E402
 from workloads import as_xml  # noqa: E402
 
 SHELL = ["/bin/sh", "-c"]
+
+
+def timer(name):
+    """The program of a timer as a module."""
+    spec = importlib.util.spec_from_file_location(name, HERE / name / "run.py")
+    module = importlib.util.module_from_spec(spec)
+    spec.loader.exec_module(module)
+    return module
 
 
 class Measuring(unittest.TestCase):
@@ -56,6 +67,28 @@ class Measuring(unittest.TestCase):
 
     def test_xml_of_a_document(self):
         self.assertEqual(as_xml("(a\nAx 1 2\nAy \n(b\n)b\n-t\n)a\n"), '<a x="1 2" y=""><b></b>t</a>')
+
+
+class PatternTime(unittest.TestCase):
+    """The texts of `pattern_time`."""
+
+    def test_that_texts_match(self):
+        made = timer("pattern_time")
+        for name, expression, make in made.ROWS:
+            for length in made.LENGTHS:
+                texts = made.texts_of(name, make, length, 20)
+                translated = expression.replace(r"\i\c*", r"\w+").replace(r"\p{L}", r"\w")
+                self.assertTrue(texts and all(length - 6 < len(text) < max(length, 30) + 6 and re.fullmatch(translated, text) for text in texts), name)
+                self.assertEqual(texts, made.texts_of(name, make, length, 20))
+                self.assertEqual(len(set(texts)), len(texts))
+
+    def test_that_attributes_match(self):
+        made = timer("pattern_time")
+        values = re.findall('c="(.*)"', made.attributes(50))
+        self.assertEqual((len(values), [it for it in values if not re.fullmatch(made.CODE, it)]), (50, []))
+
+    def test_a_line(self):
+        self.assertEqual(timer("pattern_time").line_through([(20, 270), (220, 2470), (1020, 11270)]), (11, 50))
 
 
 if __name__ == "__main__":
