@@ -1,13 +1,14 @@
 #!/usr/bin/env python3
 """Tries schemas as they are shipped: which of them `rncv-xml` serves, and why it refuses the others.
 
-    dev/search/shipped/run.py [--program RNCV-XML] [--datatypes SET] [--documents FILE|FOLDER].. [--jobs N] FOLDER|PACKAGE..
+    dev/search/shipped/run.py [--program RNCV-XML] [--datatypes SET] [--documents FILE|FOLDER].. [--own N] [--jobs N] [--list] FOLDER|PACKAGE..
 
 Each `.rnc` and `.rng` file in a folder is a schema. A word that is no folder is a package of Debian: `apt-get download` fetches it, and it is unpacked, with
 the schemas in its jars, into a folder of that name that is removed at the end. The table has a row for each word. Where jing is installed, it reads each schema
 too, and both judge the documents that are named by each schema that both take: they have to agree. A schema that is refused for a datatype (S12) is tried again
 with the nearest datatypes, as `rncv-profile` writes them, since S12 hides the clauses after it. SET is that of `rncv-xml`, `xml-schema` or `profile`, by default
-the first. The status is 1 if there is a difference or another reason.
+the first. The status is 1 if there is a difference or another reason. With `--own` up to N XML files of each word are documents too, by all schemas. With
+`--list` each schema that jing takes has a line: its column, and what it lacks.
 
 A document that names an external DTD is left out: jing would fetch it. jing's check of ID and IDREF is off, and so is that of rncv-xml.
 """
@@ -186,6 +187,12 @@ def documents_of(paths):
     return [it.absolute() for it in found if it.is_file() and not EXTERNAL.search(it.read_bytes()[:65536])]
 
 
+def some_of(documents, count):
+    """So many of them at most, from all over the list."""
+    step = -(-len(documents) // count) if count else 0
+    return documents[::step] if step else []
+
+
 def schemas_of(folder):
     return sorted(it for kind in ("rnc", "rng") for it in pathlib.Path(folder).rglob(f"*.{kind}") if it.is_file())
 
@@ -196,7 +203,7 @@ def unpacked(package, room):
     subprocess.run(["apt-get", "download", "-q", package], cwd=room / "fetched", stdout=subprocess.DEVNULL, check=True)
     folder = room / package
     subprocess.run(["dpkg-deb", "-x", max((room / "fetched").glob(f"{package}_*.deb")), folder], check=True)
-    for jar in [it for it in folder.rglob("*.jar") if it.is_file()]:
+    for jar in [it for it in folder.rglob("*.jar") if it.is_file() and not it.is_symlink()]:
         with zipfile.ZipFile(jar) as inside:
             inside.extractall(f"{jar}.unpacked", [name for name in inside.namelist() if name.endswith((".rnc", ".rng"))])
     return folder
@@ -228,6 +235,12 @@ def lacking(rows):
         yield f"| `{name}` | {count} | {alone[name]} |"
 
 
+def listed(rows):
+    """The schemas that jing takes: a line for each."""
+    for tried in (it for row in rows.values() for it in row if it.jing):
+        yield f"{tried.kind()}: {tried.path}{': ' if tried.lacks else ''}{', '.join(tried.lacks)}"
+
+
 def faults(rows):
     """What is not as it should be: a line for each."""
     for tried in (it for row in rows.values() for it in row):
@@ -241,16 +254,19 @@ def run():
     given.add_argument("--program", default=TOP / "build/xml/rncv-xml", type=pathlib.Path)
     given.add_argument("--datatypes", choices=("xml-schema", "profile"), default="xml-schema")
     given.add_argument("--documents", action="append", default=[], metavar="FILE|FOLDER")
+    given.add_argument("--own", type=int, default=0, metavar="N")
     given.add_argument("--jobs", type=int, default=2)
+    given.add_argument("--list", action="store_true")
     given.add_argument("folders", nargs="+", metavar="FOLDER|PACKAGE")
     given = given.parse_args()
     rncv, jing = Rncv(given.program.absolute(), given.datatypes), Jing() if shutil.which("jing") else None
     documents = documents_of(given.documents)
     with concurrent.futures.ThreadPoolExecutor(given.jobs) as pool, tempfile.TemporaryDirectory() as room:
         folders = [word if os.path.isdir(word) else unpacked(word, pathlib.Path(room)) for word in given.folders]
+        documents += [it for folder in folders for it in some_of(documents_of([folder]), given.own) if it not in documents]
         rows = {os.path.basename(os.path.normpath(folder)): list(pool.map(lambda it: try_schema(rncv, jing, it, documents), schemas_of(folder)))
                 for folder in folders}
-    for lines in (table(rows), [""], lacking(rows), [""], told := list(faults(rows))):
+    for lines in (table(rows), [""], lacking(rows), [""], listed(rows) if given.list else (), told := list(faults(rows))):
         for line in lines:
             print(line)
     return 1 if told else 0
