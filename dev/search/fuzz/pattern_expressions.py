@@ -128,6 +128,25 @@ def texts_of(pattern, chance, count):
     return found
 
 
+# ---- white space: the datatypes that treat it otherwise
+
+BLANKS = re.compile("[\t\n\r ]+")
+TREATED = {"string": lambda text: text, "normalizedString": lambda text: re.sub("[\t\n\r]", " ", text), "token": lambda text: BLANKS.sub(" ", text).strip(" ")}
+
+
+def kind_of(chance):
+    """A datatype: mostly `string`."""
+    return chance.choice(("string", "string", "string", "string", "normalizedString", "token"))
+
+
+def with_blanks(text, chance):
+    """The text with blanks put in at some places."""
+    for _ in range(chance.choice((0, 1, 1, 2, 3))):
+        at = chance.choice((0, len(text), chance.randint(0, len(text)), text.find(" ") + 1))
+        text = text[:at] + chance.choice((" ", "\t", "\n", "\r", "  ", " \n")) + text[at:]
+    return text
+
+
 # ---- the escapes of an expression, and its size (docs/use/LANGUAGE.md, "The larger set of datatypes")
 
 

@@ -15,7 +15,7 @@ import sys
 
 HERE = pathlib.Path(__file__).resolve().parent
 sys.path += [str(HERE.parents[1] / "check/patterns"), str(HERE.parents[1] / "bench")]
-from judges import content, datatype  # noqa: E402  (the folders are known only here)
+from judges import content, literal  # noqa: E402  (the folders are known only here)
 import measuring  # noqa: E402
 from pattern_expressions import parsed, python_of  # noqa: E402
 
@@ -26,8 +26,8 @@ VERDICT = re.compile(r"^(\d+)\.xml(?::\d+:\d+)?: (valid|invalid)\b", re.M)
 LETTERS = {"v": "valid", "i": "invalid", "s": "too many steps", "o": "stack overflow"}
 
 
-def element(number, pattern):
-    return f"element e{number} {{ attribute a {{ {datatype(pattern)} }} }}"
+def element(number, kind, pattern):
+    return f"element e{number} {{ attribute a {{ xsd:{kind} {{ pattern = {literal(pattern)} }} }} }}"
 
 
 def document(number, text):
@@ -48,19 +48,19 @@ class Rncv:
                              check=False)
         return (run.stdout + run.stderr).decode("utf-8", "replace"), run.returncode
 
-    def expression(self, pattern):
-        """Empty if it takes a text as an expression, `S12`, or anything else that it says."""
-        out, status = self.ran(element(0, pattern) + "\n")
+    def expression(self, kind, pattern):
+        """Empty if it takes a text as an expression of a datatype, `S12`, or anything else that it says."""
+        out, status = self.ran(element(0, kind, pattern) + "\n")
         return "" if status == 0 else "S12" if status == 3 and " S12 " in out else f"status {status}: {out[:200]}"
 
     def texts(self, rows):
-        """The verdicts on pairs of an expression, which all have to be taken, and a text; one run for many of them."""
-        numbers = {pattern: number for number, pattern in enumerate(dict.fromkeys(pattern for pattern, _ in rows))}
+        """The verdicts on rows of a datatype, an expression, which has to be taken, and a text; one run for many of them."""
+        numbers = {key: number for number, key in enumerate(dict.fromkeys((kind, pattern) for kind, pattern, _ in rows))}
         if len(numbers) > FEW:
             raise ValueError("too many expressions")
-        for number, (pattern, text) in enumerate(rows):
-            (self.folder / f"{number}.xml").write_text(document(numbers[pattern], text), encoding="utf-8")
-        schema = " |\n".join(element(number, pattern) for pattern, number in numbers.items()) + "\n"
+        for number, (kind, pattern, text) in enumerate(rows):
+            (self.folder / f"{number}.xml").write_text(document(numbers[kind, pattern], text), encoding="utf-8")
+        schema = " |\n".join(element(number, *key) for key, number in numbers.items()) + "\n"
         out, status = self.ran(schema, *(f"{number}.xml" for number in range(len(rows)))) if rows else ("", 0)
         found = {int(number): verdict for number, verdict in VERDICT.findall(out)}
         return [found.get(number, f"no verdict: status {status}, {out[:200]}" if status > 1 else "no verdict") for number in range(len(rows))]

@@ -5,8 +5,9 @@
 
 The judges are rncv-xml (default: build/xml/rncv-xml), jing's engine, which translates for `java.util.regex`, Python's `re` over a translation, and of whether a
 text is an expression also the reader of `dev/check/patterns/expressions.py`. Expressions come in batches: each is judged alone, and then all texts of a batch
-by one schema in one run. A difference that a reason of `pattern_reasons.py` explains is counted under its name. Any other one is made smaller, printed, and put
-into a file. The status is 0 if there is none, else 1. The same seed gives the same expressions and texts.
+by one schema in one run. The datatype is `string`, `normalizedString` or `token`; the others get the text with its white space treated. A difference that a
+reason of `pattern_reasons.py` explains is counted under its name. Any other one is made smaller, printed, and put into a file. The status is 0 if there is none,
+else 1. The same seed gives the same expressions and texts.
 """
 import argparse
 import collections
@@ -18,7 +19,7 @@ import time
 
 import pattern_judges
 import pattern_reasons
-from pattern_expressions import is_expression, made, texts_of
+from pattern_expressions import TREATED, is_expression, kind_of, made, texts_of, with_blanks
 from reducing import reduced_parts
 
 HERE = pathlib.Path(__file__).resolve().parent
@@ -30,8 +31,9 @@ REDUCING_SECONDS = 20
 class Difference:
     """What rncv-xml and another judge say of an expression, or of a text by it."""
 
-    def __init__(self, judge, pattern, text, ours, theirs):
-        self.judge, self.pattern, self.text, self.ours, self.theirs = judge, pattern, text, ours, theirs
+    def __init__(self, judge, case, ours, theirs):
+        self.judge, self.ours, self.theirs = judge, ours, theirs
+        self.kind, self.pattern, self.text = case
 
     def kinds(self):
         """What stays while it is made smaller."""
@@ -39,7 +41,8 @@ class Difference:
 
     def __repr__(self):
         of = "" if self.text is None else f" and {self.text!a}"
-        return f"{self.judge}: {self.pattern!a}{of}: {self.ours or 'taken'}, and by {self.judge} {self.theirs or 'taken'}"
+        kind = "" if self.kind == "string" else f"{self.kind} "
+        return f"{self.judge}: {kind}{self.pattern!a}{of}: {self.ours or 'taken'}, and by {self.judge} {self.theirs or 'taken'}"
 
 
 class Bench:
@@ -49,54 +52,55 @@ class Bench:
         self.rncv, self.jing = pattern_judges.Rncv(program, folder), pattern_judges.jing(folder) if has_jing else None
         self.counts, self.reasons = collections.Counter(), collections.Counter()
 
-    def expression(self, pattern):
-        """What is said of an expression: ours, jing's, and whether it is read; and the differences."""
+    def expression(self, kind, pattern):
+        """Whether an expression is taken, whether jing takes it, and the differences."""
         is_read = is_expression(pattern)
-        ours = self.rncv.expression(pattern)
+        ours = self.rncv.expression(kind, pattern)
         theirs = self.jing.judged(pattern, [])[0] if self.jing else None
         found = []
         if (not ours) != is_read:
             reason = pattern_reasons.of_our_refusal(pattern, is_read) if ours == "S12" else None
-            found.append((Difference("expressions.py", pattern, None, ours, "" if is_read else "no expression"), reason))
+            found.append((Difference("expressions.py", (kind, pattern, None), ours, "" if is_read else "no expression"), reason))
         if self.jing and (not ours) != (not theirs):
             reason = pattern_reasons.of_our_refusal(pattern, is_read) if ours == "S12" else pattern_reasons.of_jing_refusal(pattern, theirs)
-            found.append((Difference("jing", pattern, None, ours, theirs), reason))
+            found.append((Difference("jing", (kind, pattern, None), ours, theirs), reason))
         return is_read and not ours, not theirs, found
 
-    def text(self, pattern, text, ours, by_jing, by_python):
+    def text(self, row, ours, by_jing, by_python):
         """The differences about a text, each with its reason."""
-        answers = ("valid", "invalid")
+        answers, (kind, pattern, text) = ("valid", "invalid"), row
+        text = TREATED[kind](text)
         if ours not in answers:
-            yield Difference("the run", pattern, text, ours, "an answer"), None
+            yield Difference("the run", row, ours, "an answer"), None
         elif by_jing in answers and by_jing != ours:
-            yield Difference("jing", pattern, text, ours, by_jing), pattern_reasons.of_jing_text(self.jing, pattern, text)
+            yield Difference("jing", row, ours, by_jing), pattern_reasons.of_jing_text(self.jing, pattern, text)
         if ours in answers and by_python in answers and by_python != ours:
-            yield Difference("re", pattern, text, ours, by_python), pattern_reasons.of_python_text(pattern, text)
+            yield Difference("re", row, ours, by_python), pattern_reasons.of_python_text(pattern, text)
 
     def judged(self, cases):
         """The differences about expressions, each with texts."""
         rows, others = [], []
-        for pattern, texts in cases:
-            is_taken, jing_takes, found = self.expression(pattern)
+        for kind, pattern, texts in cases:
+            is_taken, jing_takes, found = self.expression(kind, pattern)
             yield from found
             self.counts["expressions" if is_taken else "refused"] += 1
             if not is_taken:
                 continue
-            rows += [(pattern, text) for text in texts]
+            rows += [(kind, pattern, text) for text in texts]
+            texts = list(map(TREATED[kind], texts))
             theirs = self.jing.judged(pattern, texts)[1] if self.jing and jing_takes else []
             others += zip(theirs or ["refused" if self.jing else "not asked"] * len(texts), pattern_judges.by_python(pattern, texts))
-        for (pattern, text), ours, answers in zip(rows, self.rncv.texts(rows), others):
+        for row, ours, answers in zip(rows, self.rncv.texts(rows), others):
             self.counts[ours] += 1
             self.counts.update(f"{judge}: {answer}" for judge, answer in zip(("jing", "re"), answers) if answer not in ("valid", "invalid"))
-            yield from self.text(pattern, text, ours, *answers)
+            yield from self.text(row, ours, *answers)
 
-    def first(self, pattern, text):
-        """The first difference about an expression, or about a text by it, that nothing explains."""
-        texts = [] if text is None or not is_expression(pattern) else [text]
+    def such(self, difference, pattern, texts):
+        """A difference like another one that nothing explains, about an expression or one of these texts; None if there is none."""
         before = self.counts.copy()
-        found = next((it for it, reason in self.judged([(pattern, texts)]) if not reason), None)
+        judged = list(self.judged([(difference.kind, pattern, texts if is_expression(pattern) else [])]))
         self.counts = before
-        return found
+        return next((it for it, reason in judged if not reason and it.kinds() == difference.kinds()), None)
 
     def close(self):
         if self.jing:
@@ -105,23 +109,31 @@ class Bench:
 
 def made_smaller(bench, difference):
     """A smaller expression and text with such a difference."""
-    def differs(pattern, text):
-        found = bench.first(pattern, text)
-        return found is not None and found.kinds() == difference.kinds()
+    end, found = time.monotonic() + REDUCING_SECONDS, difference
 
-    pattern, text, end = difference.pattern, difference.text, time.monotonic() + REDUCING_SECONDS
-    pattern = "".join(reduced_parts(list(pattern), lambda parts: differs("".join(parts), text), end))
-    if text:
-        text = "".join(reduced_parts(list(text), lambda parts: differs(pattern, "".join(parts)), end))
-    return bench.first(pattern, text) or difference
+    def differs(pattern, texts):
+        nonlocal found
+        other = bench.such(difference, pattern, texts)
+        found = other or found
+        return other is not None
+
+    def has_text(parts):
+        pattern = "".join(parts)
+        return differs(pattern, [found.text, *texts_of(pattern, random.Random(pattern), TEXTS)] if found.text is not None and is_expression(pattern) else [])
+
+    reduced_parts(list(difference.pattern), has_text, end)
+    if found.text:
+        reduced_parts(list(found.text), lambda parts: differs(found.pattern, ["".join(parts)]), end)
+    return found
 
 
 def cases_of(given, number):
     """The expressions and texts of a batch."""
     for at in range(number * BATCH, (number + 1) * BATCH):
         chance = random.Random(f"{given.seed}/{at}")
-        pattern = made(chance)
-        yield pattern, texts_of(pattern, chance, TEXTS) if is_expression(pattern) else []
+        kind, pattern = kind_of(chance), made(chance)
+        texts = texts_of(pattern, chance, TEXTS) if is_expression(pattern) else []
+        yield kind, pattern, [with_blanks(text, chance) for text in texts] if kind != "string" else texts
 
 
 def search(given, bench):
@@ -137,7 +149,7 @@ def search(given, bench):
             kinds[difference.kinds()] += 1
             if kinds[difference.kinds()] <= given.most:
                 write_found(given, bench, difference, number)
-        pairs += sum(len(texts) or 1 for _, texts in cases)
+        pairs += sum(len(texts) or 1 for *_, texts in cases)
         number += 1
     bench.counts["pairs"] = pairs
     return kinds

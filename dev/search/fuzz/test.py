@@ -213,7 +213,7 @@ class PatternsTest(unittest.TestCase):
             strict.chmod(0o755)
             status, reported = self.judged(strict)
         self.assertEqual(status, 1, reported)
-        self.assertRegex(reported.splitlines()[0], r"^re: '.{1,20}' and '.{0,10}b.{0,10}': invalid, and by re valid$")
+        self.assertRegex(reported.splitlines()[0], r"^re: (?:\w+ )?'.{1,8}' and '.{0,4}b.{0,4}': invalid, and by re valid$")
 
 
 if __name__ == "__main__":
