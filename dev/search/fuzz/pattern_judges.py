@@ -26,8 +26,16 @@ VERDICT = re.compile(r"^(\d+)\.xml(?::\d+:\d+)?: (valid|invalid)\b", re.M)
 LETTERS = {"v": "valid", "i": "invalid", "s": "too many steps", "o": "stack overflow"}
 
 
-def element(number, kind, pattern):
-    return f"element e{number} {{ attribute a {{ xsd:{kind} {{ pattern = {literal(pattern)} }} }} }}"
+def compact(rows):
+    """A schema in the compact syntax: an element for each number, datatype and expression."""
+    return " |\n".join(f"element e{number} {{ attribute a {{ xsd:{kind} {{ pattern = {literal(pattern)} }} }} }}" for number, kind, pattern in rows) + "\n"
+
+
+def in_xml(rows):
+    """The same in the XML syntax."""
+    written = "\n".join(f'<element name="e{number}"><attribute name="a"><data type="{kind}"><param name="pattern">{content(pattern)}</param></data></attribute>'
+                        f"</element>" for number, kind, pattern in rows)
+    return f'<choice xmlns="http://relaxng.org/ns/structure/1.0" datatypeLibrary="http://www.w3.org/2001/XMLSchema-datatypes">\n{written}\n</choice>\n'
 
 
 def document(number, text):
@@ -36,21 +44,21 @@ def document(number, text):
 
 
 class Rncv:
-    """`rncv-xml` with the larger set of datatypes, on one processor."""
+    """`rncv-xml` with the larger set of datatypes, on one processor. Schemas are in one of the two syntaxes."""
 
     def __init__(self, program, folder):
-        self.words, self.folder, self.runs = [str(program), "--datatypes", "xml-schema", "--no-ids", "-j", "1"], pathlib.Path(folder), 0
+        self.words, self.folder, self.syntax = [str(program), "--datatypes", "xml-schema", "--no-ids", "-j", "1"], pathlib.Path(folder), "rnc"
 
-    def ran(self, schema, *documents):
-        (self.folder / "s.rnc").write_text(schema, encoding="utf-8")
-        self.runs += 1
-        run = subprocess.run([*self.words, "--all", "s.rnc", *(["--", *documents] if documents else [])], cwd=self.folder, capture_output=True, timeout=SECONDS,
+    def ran(self, rows, *documents):
+        name = f"s.{self.syntax}"
+        (self.folder / name).write_text((compact if self.syntax == "rnc" else in_xml)(rows), encoding="utf-8")
+        run = subprocess.run([*self.words, "--all", name, *(["--", *documents] if documents else [])], cwd=self.folder, capture_output=True, timeout=SECONDS,
                              check=False)
         return (run.stdout + run.stderr).decode("utf-8", "replace"), run.returncode
 
     def expression(self, kind, pattern):
         """Empty if it takes a text as an expression of a datatype, `S12`, or anything else that it says."""
-        out, status = self.ran(element(0, kind, pattern) + "\n")
+        out, status = self.ran([(0, kind, pattern)])
         return "" if status == 0 else "S12" if status == 3 and " S12 " in out else f"status {status}: {out[:200]}"
 
     def texts(self, rows):
@@ -60,8 +68,7 @@ class Rncv:
             raise ValueError("too many expressions")
         for number, (kind, pattern, text) in enumerate(rows):
             (self.folder / f"{number}.xml").write_text(document(numbers[kind, pattern], text), encoding="utf-8")
-        schema = " |\n".join(element(number, *key) for key, number in numbers.items()) + "\n"
-        out, status = self.ran(schema, *(f"{number}.xml" for number in range(len(rows)))) if rows else ("", 0)
+        out, status = self.ran([(number, *key) for key, number in numbers.items()], *(f"{number}.xml" for number in range(len(rows)))) if rows else ("", 0)
         found = {int(number): verdict for number, verdict in VERDICT.findall(out)}
         return [found.get(number, f"no verdict: status {status}, {out[:200]}" if status > 1 else "no verdict") for number in range(len(rows))]
 

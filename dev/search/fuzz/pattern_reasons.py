@@ -16,7 +16,6 @@ REASONS = {
 }
 DASH = re.compile(r'character "[-\]]" must be escaped|expected "\["')
 NEGATIVE = re.compile(r"\[\^|-\[")
-COMPLEMENT = re.compile(r"\\[PSICDWwsic]")
 DASH_IN_CLASS = re.compile(r"\[\^?-|-\]|--|-.*\[")
 
 
@@ -49,7 +48,7 @@ def of_jing_text(jing, pattern, text):
     for escape in class_escapes(pattern):
         if is_other(jing, escape, text):
             return "names" if escape[1] in "iIcC" else "classes"
-    if any(is_other(jing, it, text) and NEGATIVE.search(it) and COMPLEMENT.search(it) for it in bracket_classes(pattern)):
+    if any(is_other(jing, it, text) and NEGATIVE.search(it) and class_escapes(it) for it in bracket_classes(pattern)):
         return "negation"
     return "classes" if is_of_later_unicode(pattern, text) else None
 

@@ -5,9 +5,9 @@
 
 The judges are rncv-xml (default: build/xml/rncv-xml), jing's engine, which translates for `java.util.regex`, Python's `re` over a translation, and of whether a
 text is an expression also the reader of `dev/check/patterns/expressions.py`. Expressions come in batches: each is judged alone, and then all texts of a batch
-by one schema in one run. The datatype is `string`, `normalizedString` or `token`; the others get the text with its white space treated. A difference that a
-reason of `pattern_reasons.py` explains is counted under its name. Any other one is made smaller, printed, and put into a file. The status is 0 if there is none,
-else 1. The same seed gives the same expressions and texts.
+by one schema in one run; the schemas of each third batch are in the XML syntax. The datatype is `string`, `normalizedString` or `token`; the others get the text
+with its white space treated. A difference that a reason of `pattern_reasons.py` explains is counted under its name. Any other one is made smaller, printed, and
+put into a file. The status is 0 if there is none, else 1. The same seed gives the same expressions and texts.
 """
 import argparse
 import collections
@@ -141,7 +141,7 @@ def search(given, bench):
     end = time.monotonic() + 60 * given.minutes if given.minutes is not None else float("inf")
     kinds, pairs, number = collections.Counter(), 0, given.first
     while pairs < given.pairs and time.monotonic() < end:
-        cases = list(cases_of(given, number))
+        cases, bench.rncv.syntax = list(cases_of(given, number)), "rng" if number % 3 == 2 else "rnc"
         for difference, reason in list(bench.judged(cases)):
             if reason:
                 bench.reasons[f"{reason}, {'an expression' if difference.text is None else 'a text'}, {difference.judge}"] += 1
