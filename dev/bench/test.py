@@ -84,8 +84,9 @@ class PatternTime(unittest.TestCase):
 
     def test_that_attributes_match(self):
         made = timer("pattern_time")
-        values = re.findall('c="(.*)"', made.attributes(50))
-        self.assertEqual((len(values), [it for it in values if not re.fullmatch(made.CODE, it)]), (50, []))
+        for texts, expression in ((made.codes(50), made.CODE), (made.names(50), r"\w{1,40}")):
+            self.assertEqual((len(texts), [it for it in texts if not re.fullmatch(expression, it)]), (50, []))
+            self.assertEqual(re.findall('c="(.*)"', made.as_xml(texts)), re.findall("\nAc (.*)", made.as_pyx(texts)))
 
     def test_a_line(self):
         self.assertEqual(timer("pattern_time").line_through([(20, 270), (220, 2470), (1020, 11270)]), (11, 50))

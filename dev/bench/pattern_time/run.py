@@ -7,8 +7,8 @@ The first table is of instructions, by callgrind and the library that `programs/
 different texts is judged with the facet and without it, and the difference is what the facet costs. From texts of three lengths follow the instructions a byte,
 and those a text beside them. At most 12 a byte and 100 a text are wanted, of expressions of at most 64 states.
 
-The second table is of time: N attributes (100,000), each `[A-Z]{2}[0-9]{4}(-[a-z]+)?`, by the library, which reads them as PYX, by `rncv-xml` (default:
-build/xml/rncv-xml), and by jing in a running machine, each on one processor. The milliseconds are the least of some runs, of a processor and with the start, and
+The second table is of time: N attributes (100,000), codes of `[A-Z]{2}[0-9]{4}(-[a-z]+)?` or names that are not ASCII, by the library, which reads PYX, by
+`rncv-xml` (default: build/xml/rncv-xml), and by jing in a running machine, each on one processor. The milliseconds are the least of some runs, of a processor and with the start, and
 for jing on the clock and without it. The last columns are the quotients; at most 1.0 is wanted. Without jing (libjing-java) or a JDK they are empty. `--only
 instructions` and `--only time` leave the other one out.
 """
@@ -28,6 +28,7 @@ from run import XML_SCHEMA, Judge  # noqa: E402
 LENGTHS = (20, 220, 1020)
 CODE = "[A-Z]{2}[0-9]{4}(-[a-z]+)?"
 LETTERS = "abcdefghijklmnopqrstuvwxyz"
+NAME = r"[\p{L}\- ]{1,40}"
 
 
 def from_letters(letters):
@@ -107,16 +108,25 @@ def instruction_rows(given):
             table.row(name, f"`{expression}`".replace("|", "\\|"), f"{slope:.1f}", f"{rest:,.0f}", *(f"{value:,.0f}" for _, value in points))
 
 
-def attributes(count):
-    """A document in XML of so many codes."""
+def codes(count):
+    """So many codes."""
     chance = random.Random(1)
-    codes = (code(chance, chance.randrange(8, 16)) for _ in range(count))
-    return "<doc>\n" + "".join(f'<r c="{it if chance.random() < 0.5 else it[:6]}"/>\n' for it in codes) + "</doc>\n"
+    made = (code(chance, chance.randrange(8, 16)) for _ in range(count))
+    return [it if chance.random() < 0.5 else it[:6] for it in made]
 
 
-def as_pyx(text):
-    """Such a document as PYX."""
-    return "(doc\n" + "".join(f"(r\nAc {it}\n)r\n" for it in re.findall('c="(.*)"', text)) + ")doc\n"
+def names(count):
+    """So many names that are not ASCII."""
+    chance = random.Random(2)
+    return ["".join(chance.choices(LETTERS, k=chance.randrange(3, 9))) + chance.choice("äöüéèñø") + chance.choice(LETTERS) for _ in range(count)]
+
+
+def as_xml(texts):
+    return "<doc>\n" + "".join(f'<r c="{it}"/>\n' for it in texts) + "</doc>\n"
+
+
+def as_pyx(texts):
+    return "(doc\n" + "".join(f"(r\nAc {it}\n)r\n" for it in texts) + ")doc\n"
 
 
 def least(words, times, core):
@@ -131,10 +141,12 @@ def time_rows(given):
         folder = pathlib.Path(room)
         jing, library = Jing(folder), Judge(given.library, folder).program
         schema_file, xml, pyx = (folder / name for name in ("s.rnc", "d.xml", "d.pyx"))
-        xml.write_text(attributes(given.attributes), encoding="ascii")
-        pyx.write_text(as_pyx(xml.read_text(encoding="ascii")), encoding="ascii")
-        for name, facet in ((f"`{CODE}`", written(CODE)), ("`xsd:string` alone", "")):
-            schema_file.write_text(f"element doc {{ element r {{ attribute c {{ xsd:string {facet} }}, empty }}* }}\n", encoding="ascii")
+        for name, make, facet in ((f"codes, `{CODE}`", codes, written(CODE)), ("codes, `xsd:string` alone", codes, ""),
+                                  (f"names, `{NAME}`", names, written(NAME)), ("names, `xsd:string` alone", names, "")):
+            texts = make(given.attributes)
+            xml.write_text(as_xml(texts), encoding="utf-8")
+            pyx.write_text(as_pyx(texts), encoding="utf-8")
+            schema_file.write_text(f"element doc {{ element r {{ attribute c {{ xsd:string {facet} }}, empty }}* }}\n", encoding="utf-8")
             ours = [least(words, given.times, core) for words in ([library, XML_SCHEMA, schema_file, pyx], [given.program, "-j", "1", schema_file, xml])]
             loop = jing.loop(schema_file, [xml], rounds=5 * given.times, processors=core) if jing.classes else None
             theirs = min(*loop.firsts, *loop.laters) if loop else 0
