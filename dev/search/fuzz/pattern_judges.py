@@ -38,9 +38,13 @@ def in_xml(rows):
     return f'<choice xmlns="http://relaxng.org/ns/structure/1.0" datatypeLibrary="http://www.w3.org/2001/XMLSchema-datatypes">\n{written}\n</choice>\n'
 
 
+def attribute_value(text):
+    """A text in double quotes. As the value of an attribute one of blanks alone is that text, and no other."""
+    return content(text).replace('"', "&#34;")
+
+
 def document(number, text):
-    """A text as the value of an attribute: one of blanks alone is that text there, and no other."""
-    return f'<e{number} a="{content(text).replace(chr(34), "&#34;")}"/>\n'
+    return f'<e{number} a="{attribute_value(text)}"/>\n'
 
 
 class Rncv:

@@ -7,11 +7,14 @@ XML, and of expressions of the facet `pattern`, for the `rncv-xml` in the folder
 import os
 import pathlib
 import random
+import shutil
 import subprocess
 import sys
 import tempfile
 import unittest
 
+import datatype_schemas
+import datatypes_run
 import pattern_expressions
 import pattern_judges
 import pattern_reasons
@@ -214,6 +217,39 @@ class PatternsTest(unittest.TestCase):
             status, reported = self.judged(strict)
         self.assertEqual(status, 1, reported)
         self.assertRegex(reported.splitlines()[0], r"^re: (?:\w+ )?'.{1,8}' and '.{0,4}b.{0,4}': invalid, and by re valid$")
+
+
+class DatatypesTest(unittest.TestCase):
+    """`datatypes_run.py`, which needs jing."""
+
+    def test_that_a_seed_says_all(self):
+        made = [[datatype_schemas.made(random.Random(number)) for number in range(100)] for _ in range(2)]
+        self.assertEqual(made[0], made[1])
+        self.assertTrue({"list", "(xsd", "xsd:"} <= {pattern[:4] for pattern, _ in made[0]})
+
+    def test_reasons_of_schemas(self):
+        for pattern, ours, theirs, reason in (
+                ('xsd:int { maxInclusive = "1" maxInclusive = "1" }', "S12", "", "repeated"), ('xsd:ID { length = "1" maxLength = "2" }', "S12", "", "length"),
+                ('xsd:ID { minLength = " 4 " maxLength = "+3" }', "S12", "", "orders"),
+                ('xsd:int { minInclusive = "1" minExclusive = "0" }', "S12", "", "orders"),
+                ('list { (xsd:int { fractionDigits = "1" } | xsd:int)* }', "S12", "", "fraction"), ('(xsd:token | xsd:QName "a")', "S12", "", "prefix"),
+                ('xsd:int { totalDigits = "1" }', "", '"10" is not allowed by the base type', "steps"), ('xsd:anyURI ":"', "", "is not a valid value", "uri"),
+                ('xsd:int { pattern = "a" pattern = "b" maxInclusive = "1" }', "S12", "", None), ("xsd:token", "status 1: x", "", None),
+                ('"a"', "", "x", None)):
+            self.assertEqual(datatypes_run.reason_of_schema(pattern, ours, theirs), reason, pattern)
+
+    def test_reasons_of_texts(self):
+        for names, text, ours, reason in ((["ENTITY"], "a", "valid", "entity"), (["anyURI"], ":", "valid", "uri"), (["anyURI"], ":", "invalid", None),
+                                          (["NCName"], "\U00010000", "valid", "names"), (["int"], "1", "valid", None)):
+            self.assertEqual(datatypes_run.reason_of_text(names, text, ours), reason, names)
+
+    def test_that_nothing_differs(self):
+        if not RNCV_XML.exists() or not shutil.which("jing"):
+            self.skipTest("rncv-xml or jing is not installed")
+        run = subprocess.run([sys.executable, "-B", HERE / "datatypes_run.py", "--seed", "test", "--rows", "1", "--program", RNCV_XML],
+                             capture_output=True, text=True, check=False)
+        self.assertEqual(run.returncode, 0, run.stdout + run.stderr)
+        self.assertIn("0 differences without an explanation", run.stdout)
 
 
 if __name__ == "__main__":
