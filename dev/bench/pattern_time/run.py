@@ -8,9 +8,9 @@ different texts is judged with the facet and without it, and the difference is w
 and those a text beside them. At most 12 a byte and 100 a text are wanted, of expressions of at most 64 states.
 
 The second table is of time: N attributes (100,000), codes of `[A-Z]{2}[0-9]{4}(-[a-z]+)?` or names that are not ASCII, by the library, which reads PYX, by
-`rncv-xml` (default: build/xml/rncv-xml), and by jing in a running machine, each on one processor. The milliseconds are the least of some runs, of a processor and with the start, and
-for jing on the clock and without it. The last columns are the quotients; at most 1.0 is wanted. Without jing (libjing-java) or a JDK they are empty. `--only
-instructions` and `--only time` leave the other one out.
+`rncv-xml` (default: build/xml/rncv-xml), and by jing in a running machine, each on one processor. The milliseconds are the least of some runs, of a processor
+and with the start, and for jing on the clock and without it. The last columns are the quotients; at most 1.0 is wanted. Without jing (libjing-java) or a JDK
+they are empty. `--only instructions` and `--only time` leave the other one out.
 """
 import argparse
 import os

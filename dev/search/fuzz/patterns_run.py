@@ -6,8 +6,8 @@
 The judges are rncv-xml (default: build/xml/rncv-xml), jing's engine, which translates for `java.util.regex`, Python's `re` over a translation, and of whether a
 text is an expression also the reader of `dev/check/patterns/expressions.py`. Expressions come in batches: each is judged alone, and then all texts of a batch
 by one schema in one run; the schemas of each third batch are in the XML syntax. The datatype is `string`, `normalizedString` or `token`; the others get the
-text with its white space treated. A difference that a reason of `pattern_reasons.py` explains is counted under its name. Any other one is made smaller, printed, and
-put into a file. The status is 0 if there is none, else 1. The same seed gives the same expressions and texts.
+text with its white space treated. A difference that a reason of `pattern_reasons.py` explains is counted under its name. Any other one is made smaller,
+printed, and put into a file. The status is 0 if there is none, else 1. The same seed gives the same expressions and texts.
 """
 import argparse
 import collections

@@ -10,8 +10,8 @@ from one to another, with a `|` behind it these are alternatives, and `ab~9` is 
 
 rncv-xml judges the schema alone, and then the schema and a document. The milliseconds are those of these runs, of a processor, with their start. With jing
 each row has a Java machine of its own, with its usual stack, and the milliseconds are those of its two calls. All are stopped after some seconds (20). It
-prints a table of Markdown; with `--write` it is put into patterns.md here, behind the line that ends in `patterns.py --write -->`. Without jing (libjing-java) or a JDK its cells
-are empty. The status is 1 if an answer is not that of the row.
+prints a table of Markdown; with `--write` it is put into patterns.md here, behind the line that ends in `patterns.py --write -->`. Without jing
+(libjing-java) or a JDK its cells are empty. The status is 1 if an answer is not that of the row.
 """
 import argparse
 import pathlib
