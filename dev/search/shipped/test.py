@@ -66,6 +66,15 @@ class Shipped(unittest.TestCase):
         lines, status = self.report("--documents", self.folder, self.folder, has_jing=True)
         self.assertIn("| some | 5 | 2 | 1 | 2 | 0 | 0 | 6, 2 | 0 |", lines)
         self.assertEqual((lines[-2:], status), (["", ""], 0))
+        lines, status = self.report("--own", 9, "--list", self.folder, has_jing=True)
+        self.assertIn("| some | 5 | 2 | 1 | 2 | 0 | 0 | 6, 2 | 0 |", lines)
+        self.assertIn(f"served: {self.folder}/same.rng", lines)
+        self.assertIn(f"datatypes: {self.folder}/dates.rnc: pattern, xsd:date, xsd:decimal", lines)
+
+    def test_some_documents(self):
+        for count, taken in ((0, []), (1, [0]), (2, [0, 5]), (3, [0, 4, 8]), (10, list(range(10))), (99, list(range(10)))):
+            self.assertEqual(run.some_of(list(range(10)), count), taken)
+        self.assertEqual(run.some_of([], 5), [])
 
     def test_a_difference_is_told(self):
         verdicts = {self.folder / "good.xml": "invalid"}
@@ -93,6 +102,7 @@ class Shipped(unittest.TestCase):
         with zipfile.ZipFile(room / "package/usr/b.jar", "w") as jar:
             jar.writestr("in/b.rng", FILES["same.rng"])
             jar.writestr("in/b.txt", "x")
+        (room / "package/usr/same.jar").symlink_to("b.jar")
         subprocess.run(["dpkg-deb", "-b", "package", "some-schemas_1_all.deb"], cwd=room, stdout=subprocess.DEVNULL, check=True)
         (room / "bin/apt-get").write_text(f'#!/bin/sh\n[ "$*" = "download -q some-schemas" ] && cp "{room}/some-schemas_1_all.deb" .\n')
         (room / "bin/apt-get").chmod(0o755)
