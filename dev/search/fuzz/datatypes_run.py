@@ -169,6 +169,8 @@ def main():
         counts, rows, faults = search(given, Judges(given.program.resolve(), room))
     for name, number in sorted(counts.items()):
         print(f"{number:9,} {name}")
+    for name, what in OF_SCHEMAS.items():
+        print(f"{name}: {what}")
     print(f"dev/search/fuzz: seed {given.seed}: {rows:,} texts in {time.monotonic() - begun:.0f} s, {faults} differences without an explanation")
     return 1 if faults else 0
 

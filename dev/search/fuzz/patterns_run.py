@@ -191,6 +191,8 @@ def main():
     for what, counts in (("", bench.counts), ("explained by ", bench.reasons)):
         for name, number in sorted(counts.items()):
             print(f"{number:9,} {what}{name}")
+    for name in sorted({key.split(",")[0] for key in bench.reasons}):
+        print(f"{name}: {pattern_reasons.REASONS[name]}")
     for kind, number in kinds.most_common():
         print(f"{number:9,} without an explanation: {kind}")
     print(f"dev/search/fuzz: seed {given.seed}: {pairs:,} pairs in {time.monotonic() - begun:.0f} s, {sum(kinds.values())} differences without an explanation"
