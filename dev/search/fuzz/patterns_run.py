@@ -121,7 +121,8 @@ def made_smaller(bench, difference):
         pattern = "".join(parts)
         return differs(pattern, [found.text, *texts_of(pattern, random.Random(pattern), TEXTS)] if found.text is not None and is_expression(pattern) else [])
 
-    reduced_parts(list(difference.pattern), has_text, end)
+    for _ in range(2):  # what is left when brackets are gone may be made smaller again
+        reduced_parts(list(found.pattern), has_text, end)
     if found.text:
         reduced_parts(list(found.text), lambda parts: differs(found.pattern, ["".join(parts)]), end)
     return found

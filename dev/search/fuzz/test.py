@@ -18,6 +18,7 @@ import datatypes_run
 import pattern_expressions
 import pattern_judges
 import pattern_reasons
+import patterns_run
 import xml_differences
 import xml_documents
 import xml_judges
@@ -193,10 +194,10 @@ class PatternsTest(unittest.TestCase):
         self.assertEqual(pattern_reasons.of_jing_refusal("[-a]", 'character "-" must be escaped'), "dash")
         self.assertIsNone(pattern_reasons.of_jing_refusal("a-b", 'character "-" must be escaped'))
 
-    def judged(self, program):
+    def judged(self, program, *words):
         with tempfile.TemporaryDirectory() as room:
             run = subprocess.run([sys.executable, "-B", HERE / "patterns_run.py", "--no-jing", "--seed", "test", "--pairs", "1", "--most", "1",
-                                  "--program", program, "--found", pathlib.Path(room, "found")], capture_output=True, text=True, check=False,
+                                  "--program", program, "--found", pathlib.Path(room, "found"), *words], capture_output=True, text=True, check=False,
                                  env={**os.environ, "REAL_PROGRAM": str(RNCV_XML)})
             return run.returncode, run.stdout + run.stderr
 
@@ -207,16 +208,26 @@ class PatternsTest(unittest.TestCase):
         self.assertEqual(status, 0, reported)
         self.assertIn("0 differences without an explanation", reported)
 
-    def test_that_a_wrong_verdict_is_found_and_made_small(self):
+    def test_that_a_wrong_verdict_is_found(self):
         if not RNCV_XML.exists():
             self.skipTest(f"there is no {RNCV_XML}")
         with tempfile.TemporaryDirectory() as room:
             strict = pathlib.Path(room, "rncv-xml")
             strict.write_text(STRICT)
             strict.chmod(0o755)
-            status, reported = self.judged(strict)
+            status, reported = self.judged(strict, "--no-reducing")
         self.assertEqual(status, 1, reported)
-        self.assertRegex(reported.splitlines()[0], r"^re: (?:\w+ )?'.{1,8}' and '.{0,4}b.{0,4}': invalid, and by re valid$")
+        self.assertRegex(reported.splitlines()[0], r"^re: (?:\w+ )?'.*' and '.*b.*': invalid, and by re valid$")
+
+    def test_that_a_difference_is_made_small(self):
+        class Bench:
+            """A program that calls each text with a `b` invalid."""
+            def such(self, difference, pattern, texts):
+                wrong = [it for it in texts if "b" in it and pattern_expressions.matches(pattern, it)]
+                return patterns_run.Difference("re", ("string", pattern, wrong[0]), "invalid", "valid") if wrong else None
+
+        found = patterns_run.made_smaller(Bench(), patterns_run.Difference("re", ("string", "a(x*b|[cd]{2,3})+.?", "axxbcdb!"), "invalid", "valid"))
+        self.assertIn((found.pattern, found.text), (("b", "b"), (".", "b")))
 
 
 class DatatypesTest(unittest.TestCase):
