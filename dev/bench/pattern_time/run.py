@@ -158,7 +158,7 @@ def main():
     parser = argparse.ArgumentParser(prog="run.py", description=__doc__.splitlines()[0])
     parser.add_argument("--library", type=pathlib.Path, default=TOP / "build/library")
     parser.add_argument("--program", type=pathlib.Path, default=TOP / "build/xml/rncv-xml")
-    parser.add_argument("--texts", type=int, default=400)
+    parser.add_argument("--texts", type=int, default=100)
     parser.add_argument("--attributes", type=int, default=100_000)
     parser.add_argument("--times", type=int, default=20)
     parser.add_argument("--core", type=int)
