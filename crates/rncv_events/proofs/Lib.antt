@@ -1,0 +1,3 @@
+mod CalledEvents
+mod ToldDocuments
+mod SettledCalls

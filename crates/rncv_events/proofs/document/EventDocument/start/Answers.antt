@@ -1,0 +1,104 @@
+use Rattle.std.proofs.Common.{◌≡◌, [], ◌∷◌, ◌++◌, IfErr, IfSome, List, None, OnOk, Result, Some, ap, rules, subst, sym}
+use Rattle.rng_model.specs.documents.EventViews.{Hands}
+use Rattle.rng_model.specs.documents.PyxTrees.{Event}
+use Rattle.element_events.specs.views.Kept.{Extends, UnlessOutOfMemory}
+use Rattle.element_events.specs.declared.fault.EventFault.{EventFault}
+use Rattle.element_events.specs.views.Told.{call, start_told}
+use Rattle.rng_deriv.specs.views.Matchers.{HasGoneOn}
+use Rattle.rncv_validator.specs.views.FedDocuments.{HasNotRunOut, matching_of}
+use Rattle.rncv_validator.proofs.FedDocuments.{state_there}
+use Rattle.rncv_events.specs.Answers.{IsResult}
+use Rattle.rncv_events.specs.views.Told.{HasTaken, IsFaultOfCalls, Judging, Takes, failed_since}
+use Rattle.rncv_events.proofs.SettledCalls.{fault_of_calls, fault_settled, fault_told, kept_settled, none_told, result_is, resumed_there, since_settled}
+use Rattle.rncv_events.proofs.SettledCalls.{state_settled, stuck_result, stuck_taken, taken_settled}
+use Rattle.rncv_events.proofs.document.EventDocument.start.Goals as goal
+
+pub returns-in-Some-clause-taken : goal.returns-in-Some-clause-taken
+returns-in-Some-clause-taken c =
+    let d = c.self.inside in
+    stuck_taken c.args.self.now c.in-Some.fault
+    (subst (λ (j : Judging). IsFaultOfCalls j.calls (Some c.in-Some.fault)) c.self.view_is (fault_of_calls d.calls d.state d.fault c.in-Some.fault c.in-Some.is c.self.invariant.2))
+    (call c.args.place (start_told c.args.name c.args.attributes.now))
+
+pub returns-in-Some-clause-answer : goal.returns-in-Some-clause-answer
+returns-in-Some-clause-answer c =
+    let d = c.self.inside in
+    stuck_result c.args.self.now c.in-Some.fault
+    (subst (λ (j : Judging). IsFaultOfCalls j.calls (Some c.in-Some.fault)) c.self.view_is (fault_of_calls d.calls d.state d.fault c.in-Some.fault c.in-Some.is c.self.invariant.2))
+    (call c.args.place (start_told c.args.name c.args.attributes.now))
+
+pub invariant_of-self : goal.invariant_of-self
+invariant_of-self c =
+    let d = c.self.inside in
+    let g = d.grammar.value in
+    let s = c.in-Some-take.state in
+    let old = c.resume-matcher.result in
+    let new = c.start-answer.new.events in
+    let k = c.start-answer.new.self in
+    let r = c.start-answer.result in
+    let place = c.settle.new.place in
+    let fault = c.settle.new.fault in
+    let settled = c.settle.ensures.settled in
+    let longer = c.start-answer.ensures.stands in
+    let e = (call c.args.place (start_told c.args.name c.args.attributes.now)) in (
+      c.self.invariant.0,
+      state_settled g c.deref.result.now s old new c.deref.ensures c.resume-matcher.ensures d.calls k e d.fault place fault r longer settled,
+      fault_settled g c.deref.result.now s old new c.deref.ensures c.resume-matcher.ensures d.calls k e d.fault place fault r longer settled (search rules)
+          c.start-answer.ensures.working c.start-answer.ensures.fault,
+      kept_settled g c.deref.result.now s old new c.deref.ensures c.resume-matcher.ensures d.calls k e d.fault place fault r longer settled
+          (state_there d.state s (HasNotRunOut g) (search rules) c.self.invariant.3),
+    )
+
+pub returns-clause-taken : goal.returns-clause-taken
+returns-clause-taken c =
+    let d = c.self.inside in
+    let g = d.grammar.value in
+    let s = c.in-Some-take.state in
+    let old = c.resume-matcher.result in
+    let new = c.start-answer.new.events in
+    let k = c.start-answer.new.self in
+    let r = c.start-answer.result in
+    let place = c.settle.new.place in
+    let fault = c.settle.new.fault in
+    let e = (call c.args.place (start_told c.args.name c.args.attributes.now)) in
+    let there = resumed_there g c.deref.result.now d.state s old d.calls d.fault c.args.self.now c.self.view_is (search rules) c.deref.ensures c.resume-matcher.ensures in
+    subst (λ (r : Result Unit EventFault). UnlessOutOfMemory r (Takes c.args.self.now (record { grammar = g; calls = k; matching = matching_of g place; fault = fault }) e))
+    (sym c.settle.ensures.same)
+    (taken_settled g c.deref.result.now s old new c.deref.ensures c.resume-matcher.ensures d.calls k e d.fault place fault c.args.self.now there
+    (ap (λ (j : Judging). j.calls) c.self.view_is) r c.start-answer.ensures.stands c.settle.ensures.settled)
+
+pub returns-clause-since : goal.returns-clause-since
+returns-clause-since c =
+    let d = c.self.inside in
+    let g = d.grammar.value in
+    let s = c.in-Some-take.state in
+    let old = c.resume-matcher.result in
+    let new = c.start-answer.new.events in
+    let k = c.start-answer.new.self in
+    let r = c.start-answer.result in
+    let place = c.settle.new.place in
+    let fault = c.settle.new.fault in
+    let e = (call c.args.place (start_told c.args.name c.args.attributes.now)) in
+    let there = resumed_there g c.deref.result.now d.state s old d.calls d.fault c.args.self.now c.self.view_is (search rules) c.deref.ensures c.resume-matcher.ensures in
+    subst (λ (r : Result Unit EventFault). IfSome (failed_since c.args.self.now) (λ at. UnlessOutOfMemory r
+    (failed_since (record { grammar = g; calls = k; matching = matching_of g place; fault = fault }) ≡ Some at))) (sym c.settle.ensures.same)
+    (since_settled g c.deref.result.now s old new c.deref.ensures c.resume-matcher.ensures d.calls k e d.fault place fault c.args.self.now there
+    (ap (λ (j : Judging). j.calls) c.self.view_is) r c.start-answer.ensures.stands c.settle.ensures.settled)
+
+pub returns-clause-answer : goal.returns-clause-answer
+returns-clause-answer c =
+    let r = c.start-answer.result in
+    let k = c.start-answer.new.self in
+    let handed = Hands HasGoneOn c.resume-matcher.result c.start-answer.new.events in
+    let e = (call c.args.place (start_told c.args.name c.args.attributes.now)) in
+    let longer = subst (λ (j : Judging). UnlessOutOfMemory r (Extends handed j.calls k e)) c.self.view_is c.start-answer.ensures.stands in
+    subst (λ (r : Result Unit EventFault). (calls : List Event) → HasTaken c.args.self.now calls → IsResult r (calls ++ e ∷ [])) (sym c.settle.ensures.same)
+    (result_is c.args.self.now k handed e r longer c.start-answer.ensures.begins c.start-answer.ensures.fault)
+
+pub returns-clause-fault : goal.returns-clause-fault
+returns-clause-fault c = subst (λ (r : Result Unit EventFault). IfErr r (λ f. c.settle.new.fault ≡ Some f)) (sym c.settle.ensures.same)
+    (fault_told c.start-answer.result c.start-answer.new.events c.self.inside.fault c.settle.new.place c.settle.new.fault c.settle.ensures.settled)
+
+pub returns-clause-working : goal.returns-clause-working
+returns-clause-working c = subst (λ (r : Result Unit EventFault). OnOk r (c.settle.new.fault ≡ None)) (sym c.settle.ensures.same)
+    (none_told c.start-answer.result c.start-answer.new.events c.self.inside.fault c.settle.new.place c.settle.new.fault c.settle.ensures.settled (search rules))

@@ -1,0 +1,224 @@
+// Documents that are told by calls.
+ghost use Rattle.std.specs.Prelude.{◌≡◌, [], ◌∷◌, ◌++◌, ℕ, List, IfErr, IfOk, IfSome, IsErrOf, OnOk, Some, None, Err};
+ghost use Rattle.rng_model.specs.schema.Schema.{Schema};
+ghost use Rattle.rng_model.specs.xsd.SchemasWith.{IsValidBySchemaWith};
+ghost use Rattle.rng_model.specs.declared.type_set.TypeSet.{TypeSet};
+ghost use Rattle.rng_model.specs.documents.PyxTrees.{Event, a_string, an_end};
+ghost use Rattle.rncv_model.specs.answers.Verdict.{IsUnknownIn};
+ghost use Rattle.rncv_validator.specs.views.Validators.{JudgesWith};
+ghost use Rattle.element_events.specs.views.Kept.{UnlessOutOfMemory};
+ghost use Rattle.element_events.specs.views.Told.{call, start_told};
+ghost use Rattle.rncv_events.specs.Answers.{AreHopelessFrom, IsAnswer, IsResult, KnowsStarts};
+ghost use Rattle.rncv_events.specs.views.Told.{HasTaken, Takes, answer_by, failed_since};
+
+use crate::settling::settle;
+use element_events::{Attribute, ElementEvents, EventFault, ExpandedName};
+use rncv_validator::Validator;
+use rng_deriv::{Matcher, MatcherState};
+use rng_model::{OutOfMemory, Outcome, SimpleGrammar};
+use std::alloc::Global;
+use std::marker::Model;
+use std::sync::Arc;
+
+/// A document that is told by calls, and judged by the schema of a validator.
+///
+/// There is no limit but memory on how deep elements nest, how many attributes a tag has and how long a text is. It
+/// keeps the names and values of a tag, a text, the number of open elements, and what the matcher keeps.
+#[derive(Drop)]
+pub struct EventDocument {
+    alloc: Global,
+    grammar: Arc<SimpleGrammar>,
+    calls: ElementEvents,
+    /// What the matcher keeps. It is `None` while the matcher works, and after it ran out of memory.
+    state: Option<MatcherState>,
+    /// The error that every call returns.
+    fault: Option<EventFault>,
+}
+
+impl Model for EventDocument {
+    ghost use Rattle.std.specs.Prelude.{IfSome};
+    ghost use Rattle.rng_model.specs.simple.Table.{grammar_of};
+    ghost use Rattle.rng_model.specs.restrictions.Restrictions.{BreaksNone};
+    ghost use Rattle.rng_deriv.specs.views.Matchers.{IsStateBy};
+    ghost use Rattle.rncv_validator.specs.views.FedDocuments.{HasNotRunOut, matching_of};
+    ghost use Rattle.rncv_events.specs.views.Told.{IsKeptFault, Judging};
+    ghost use Rattle.rng_model.specs.contracts.name.NameClass as classes;
+    ghost use Rattle.std.specs.Coded.{codes};
+
+    ghost Value = { Judging };
+
+    ghost coded = { Prim.hlevel (codes, classes.the_row.coded) };
+
+    ghost view = { λ d. record { grammar = d.grammar.value; calls = d.calls; matching = matching_of d.grammar.value d.state; fault = d.fault } };
+
+    ghost invariant = { λ d. (BreaksNone (grammar_of d.grammar.value)) × (IfSome d.state (IsStateBy d.grammar.value)) × (IsKeptFault d.calls d.state d.fault) × (IfSome d.state (HasNotRunOut d.grammar.value)) };
+}
+
+impl EventDocument {
+    /// Begins a document by the schema of a validator, which `finish` returns.
+    ///
+    /// Allocates memory for the first document, in proportion to the schema. If this fails, each call returns
+    /// `EventFault::Memory`. The first document costs a look-up by hashing for each pattern of the schema, the next ones
+    /// cost nothing. RELAX NG Specification, section 6.
+    pub fn new(alloc: Global, validator: Validator) -> Self
+        ensures grammar { result.grammar ≡ validator }
+        ensures begun { HasTaken result [] }
+        ensures fault { IfSome result.fault (λ f. f ≡ EventFault.Memory) }
+    {
+        let (grammar, state) = validator.into_parts(alloc);
+        let fault = match state {
+            Some(_) => None,
+            None => Some(EventFault::Memory),
+        };
+        EventDocument {
+            alloc,
+            grammar,
+            calls: ElementEvents::new(alloc),
+            state,
+            fault,
+        }
+    }
+
+    /// Takes the start of an element, with a place that the caller chooses.
+    ///
+    /// Fails with `EventFault::NotWellFormed` exactly if no document begins with the calls so far, and with
+    /// `EventFault::Memory` when out of memory. After an error every call returns the same error. Costs what
+    /// `ElementEvents::start` costs, and what the matcher does. RELAX NG Specification, sections 2 and 6.2.
+    pub fn start(
+        &mut self,
+        place: u64,
+        name: ExpandedName<'_>,
+        attributes: &[Attribute<'_>],
+    ) -> Result<(), EventFault>
+        ensures grammar { self.new.grammar ≡ self.old.grammar }
+        ensures taken { UnlessOutOfMemory result (Takes self.old self.new (call place (start_told name.entry attributes.now))) }
+        ensures answer { (calls : List Event) → HasTaken self.old calls → IsResult result (calls ++ call place (start_told name.entry attributes.now) ∷ []) }
+        ensures fault { IfErr result (λ f. self.new.fault ≡ Some f) }
+        ensures working { OnOk result (self.new.fault ≡ None) }
+        ensures sticky { IfSome self.old.fault (λ f. (result ≡ Err f) × (self.new ≡ self.old)) }
+        ensures since { IfSome (failed_since self.old) (λ at. UnlessOutOfMemory result (failed_since self.new ≡ Some at)) }
+    {
+        if let Some(fault) = self.fault {
+            return Err(fault);
+        }
+        let Some(state) = self.state.take() else {
+            unreachable!();
+        };
+        let mut matcher = Matcher::resume(self.alloc, &self.grammar, state);
+        let answer = self.calls.start(place, name, attributes, &mut matcher);
+        settle(answer, matcher, &mut self.state, &mut self.fault)
+    }
+
+    /// Takes a text. It may be empty, and may be a part of a string: texts that follow each other are one string. The
+    /// string has the place of the start or the end that follows it.
+    ///
+    /// Fails as `start` does. Costs one pass over the text, which is copied into a buffer. RELAX NG Specification,
+    /// section 2.
+    pub fn text(&mut self, text: &str) -> Result<(), EventFault>
+        ensures grammar { self.new.grammar ≡ self.old.grammar }
+        ensures taken { (place : ℕ) → UnlessOutOfMemory result (Takes self.old self.new (call place (a_string text.now))) }
+        ensures answer { (place : ℕ) (calls : List Event) → HasTaken self.old calls → IsResult result (calls ++ call place (a_string text.now) ∷ []) }
+        ensures fault { IfErr result (λ f. self.new.fault ≡ Some f) }
+        ensures working { OnOk result (self.new.fault ≡ None) }
+        ensures sticky { IfSome self.old.fault (λ f. (result ≡ Err f) × (self.new ≡ self.old)) }
+        ensures since { failed_since self.new ≡ failed_since self.old }
+    {
+        if let Some(fault) = self.fault {
+            return Err(fault);
+        }
+        match self.calls.text(text) {
+            Ok(()) => Ok(()),
+            Err(fault) => {
+                self.fault = Some(fault);
+                Err(fault)
+            }
+        }
+    }
+
+    /// Takes the end of the innermost element, with a place that the caller chooses.
+    ///
+    /// Fails as `start` does. Costs what the matcher does. RELAX NG Specification, sections 2 and 6.2.
+    pub fn end(&mut self, place: u64) -> Result<(), EventFault>
+        ensures grammar { self.new.grammar ≡ self.old.grammar }
+        ensures taken { UnlessOutOfMemory result (Takes self.old self.new (call place an_end)) }
+        ensures answer { (calls : List Event) → HasTaken self.old calls → IsResult result (calls ++ call place an_end ∷ []) }
+        ensures fault { IfErr result (λ f. self.new.fault ≡ Some f) }
+        ensures working { OnOk result (self.new.fault ≡ None) }
+        ensures sticky { IfSome self.old.fault (λ f. (result ≡ Err f) × (self.new ≡ self.old)) }
+        ensures since { IfSome (failed_since self.old) (λ at. UnlessOutOfMemory result (failed_since self.new ≡ Some at)) }
+    {
+        if let Some(fault) = self.fault {
+            return Err(fault);
+        }
+        let Some(state) = self.state.take() else {
+            unreachable!();
+        };
+        let mut matcher = Matcher::resume(self.alloc, &self.grammar, state);
+        let answer = self.calls.end(place, &mut matcher);
+        settle(answer, matcher, &mut self.state, &mut self.fault)
+    }
+
+    /// Returns the place of the call after which no continuation is valid, once it is known. No document that begins with
+    /// the calls up to that one is valid. `finish` then returns `Invalid` with this place, or an error.
+    ///
+    /// It is known once the pattern that is left matches nothing. A start with a name that no element of the schema's
+    /// simple form may have makes it known. Allocates nothing. RELAX NG Specification, sections 6.2 and 6.3.
+    pub fn invalid_since(&self) -> Option<u64>
+        ensures value { result ≡ failed_since self.now }
+        ensures hopeless { IfSome result (λ place. self.now.fault ≡ None → (types : TypeSet) (s : Schema) (calls : List Event) → JudgesWith types self.now.grammar s
+            → HasTaken self.now calls → AreHopelessFrom (IsValidBySchemaWith types s) (IsUnknownIn s) calls place) }
+        ensures known { result ≡ None → self.now.fault ≡ None → (types : TypeSet) (s : Schema) (calls : List Event) → JudgesWith types self.now.grammar s
+            → HasTaken self.now calls → KnowsStarts (IsUnknownIn s) calls }
+    {
+        self.state.as_ref()?.failed_at()
+    }
+
+    /// Ends the document, and returns whether it is valid, and the validator for the next document.
+    ///
+    /// Fails with `EventFault::NotWellFormed` exactly if the calls tell no document. Otherwise the outcome is `Valid`
+    /// exactly if their document matches the schema by the rules of section 6 of the RELAX NG Specification, applied to
+    /// the files as they are written, with the set of datatypes that the schema was compiled with. Otherwise it is
+    /// `Invalid` with the place of a start or an end. No document that begins with the calls up to that one is valid. No
+    /// start before it has a name that no element of the schema's simple form may have. Fails with `EventFault::Memory`
+    /// only if an earlier call did. Allocates nothing. Costs a test of each alternative.
+    pub fn finish(self) -> (Validator, Result<Outcome, EventFault>)
+        ensures grammar { result.0 ≡ self.grammar }
+        ensures answer { (types : TypeSet) (s : Schema) (calls : List Event) → JudgesWith types self.grammar s → HasTaken self calls
+            → IsAnswer (IsValidBySchemaWith types s) (IsUnknownIn s) calls result.1 }
+        ensures memory { IsErrOf result.1 EventFault.Memory → self.fault ≡ Some EventFault.Memory }
+        ensures sticky { IfSome self.fault (λ f. result.1 ≡ Err f) }
+        ensures since { IfSome (failed_since self) (λ place. IfOk result.1 (λ o. o ≡ Outcome.Invalid place)) }
+    {
+        let EventDocument {
+            alloc,
+            grammar,
+            calls,
+            state,
+            fault,
+        } = self;
+        let Some(state) = state else {
+            return (Validator::of_parts(grammar, None), Err(EventFault::Memory));
+        };
+        if let Some(fault) = fault {
+            return (Validator::of_parts(grammar, Some(state)), Err(fault));
+        }
+        let matcher = Matcher::resume(alloc, &grammar, state);
+        let answer = answer_at_end(calls.finish(), matcher.outcome());
+        let state = Some(matcher.into_state());
+        (Validator::of_parts(grammar, state), answer)
+    }
+}
+
+/// Returns the answer at the end of a document, given how the calls ended and the outcome of the matcher.
+fn answer_at_end(
+    ended: Result<(), EventFault>,
+    outcome: Result<Outcome, OutOfMemory>,
+) -> Result<Outcome, EventFault>
+    ensures { result ≡ answer_by ended outcome }
+{
+    match (ended, outcome) {
+        (Ok(()), Ok(outcome)) => Ok(outcome),
+        (Ok(()), Err(_)) => Err(EventFault::Memory),
+        (Err(fault), _) => Err(fault),
+    }
+}
