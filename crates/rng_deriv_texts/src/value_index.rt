@@ -53,7 +53,9 @@ fn plain_compares_texts(datatype: &PlainType) -> bool
         PlainType::NmToken(_) => true,
         PlainType::Word(_) => true,
         PlainType::List(_) => true,
-        PlainType::Boolean(_) | PlainType::Integer(_) => false,
+        PlainType::Boolean(_) | PlainType::Octets(_) => false,
+        PlainType::Integer(_) | PlainType::Decimal(_) => false,
+        PlainType::Float(_) | PlainType::Duration(_) | PlainType::Moment(_) => false,
     }
 }
 

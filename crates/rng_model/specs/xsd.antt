@@ -5,6 +5,7 @@ pub mod Facets
 pub mod Limits
 pub mod Integers
 pub mod Types
+pub mod primitives
 pub mod Datatypes
 pub mod TypeSets
 pub mod SchemasWith

@@ -5,6 +5,7 @@ pub mod NameParts
 pub mod CountedNumbers
 pub mod Items
 pub mod Values
+pub mod OneValue
 pub mod SpacedWords
 pub mod Restricted
 pub mod NumeralRuns

@@ -1,13 +1,17 @@
 // The table of types, by their names.
-ghost use Rattle.std.specs.Prelude.{◌≡◌, not};
+ghost use Rattle.std.specs.Prelude.{◌≡◌, ◌++◌, not};
 ghost use Rattle.std.specs.Option.{option_map};
 ghost use Rattle.rng_model.specs.datatypes.Facets.{named};
-ghost use Rattle.rng_model.specs.xsd.Datatypes.{depends_on_context, from_to, from, up_to, unbounded, text_types, number_types, complete_types};
+ghost use Rattle.rng_model.specs.xsd.Datatypes.{depends_on_context, from_to, from, up_to, unbounded};
+ghost use Rattle.rng_model.specs.xsd.Datatypes.{text_types, number_types, primitive_types, complete_types};
 ghost use Rattle.xsd_types.specs.views.Kinds.{maker_of, white_space_of};
 
 use crate::lists::ItemKind;
+use crate::octets::OctetKind;
 use crate::range::WrittenRange;
 use crate::words::WordKind;
+use xsd_floats::FloatKind;
+use xsd_moments::MomentKind;
 use xsd_patterns::WhiteSpace;
 
 /// The kind of a type: what its values are, and which parameters it takes.
@@ -17,9 +21,19 @@ pub(crate) enum Kind {
     Boolean,
     QName,
     Integer(WrittenRange),
+    Ordered(OrderedKind),
 }
 
-/// The kind of a type whose values are texts of a number of characters, or lists of a number of items.
+/// The kind of a type whose values are ordered, and are no integers.
+#[derive(Clone, Copy)]
+pub(crate) enum OrderedKind {
+    Decimal,
+    Float(FloatKind),
+    Duration,
+    Moment(MomentKind),
+}
+
+/// The kind of a type whose values are texts of a number of characters, lists of a number of items, or a number of octets.
 #[derive(Clone, Copy)]
 pub(crate) enum TextKind {
     String,
@@ -29,6 +43,7 @@ pub(crate) enum TextKind {
     NmToken,
     Word(WordKind),
     List(ItemKind),
+    Octets(OctetKind),
 }
 
 // how the white space of a text is treated before anything else is asked of it
@@ -48,11 +63,20 @@ pub(crate) fn find_kind(name: &str) -> Option<Kind>
 {
     match find_text(name) {
         Some(kind) => Some(kind),
-        None => find_number(name),
+        None => find_number_or_primitive(name),
     }
 }
 
-// the kind of the type of that name whose values are no numbers
+fn find_number_or_primitive(name: &str) -> Option<Kind>
+    ensures { option_map maker_of result ≡ named name.now (number_types ++ primitive_types) }
+{
+    match find_number(name) {
+        Some(kind) => Some(kind),
+        None => find_primitive(name),
+    }
+}
+
+// the kind of the type of that name whose values are texts
 fn find_text(name: &str) -> Option<Kind>
     ensures { option_map maker_of result ≡ named name.now text_types }
 {
@@ -72,7 +96,7 @@ fn find_text(name: &str) -> Option<Kind>
     }
 }
 
-// the kind of the type of that name whose values are numbers
+// the kind of the type of that name whose values are integers
 fn find_number(name: &str) -> Option<Kind>
     ensures { option_map maker_of result ≡ named name.now number_types }
 {
@@ -90,6 +114,29 @@ fn find_number(name: &str) -> Option<Kind>
         "unsignedShort" => Some(from_to("0", "65535")),
         "unsignedByte" => Some(from_to("0", "255")),
         "positiveInteger" => Some(from("1")),
+        _ => None,
+    }
+}
+
+// the kind of the primitive type of that name whose values are no texts
+fn find_primitive(name: &str) -> Option<Kind>
+    ensures { option_map maker_of result ≡ named name.now primitive_types }
+{
+    match name {
+        "decimal" => Some(Kind::Ordered(OrderedKind::Decimal)),
+        "float" => Some(Kind::Ordered(OrderedKind::Float(FloatKind::Float))),
+        "double" => Some(Kind::Ordered(OrderedKind::Float(FloatKind::Double))),
+        "duration" => Some(Kind::Ordered(OrderedKind::Duration)),
+        "dateTime" => Some(Kind::Ordered(OrderedKind::Moment(MomentKind::DateTime))),
+        "time" => Some(Kind::Ordered(OrderedKind::Moment(MomentKind::Time))),
+        "date" => Some(Kind::Ordered(OrderedKind::Moment(MomentKind::Date))),
+        "gYearMonth" => Some(Kind::Ordered(OrderedKind::Moment(MomentKind::YearMonth))),
+        "gYear" => Some(Kind::Ordered(OrderedKind::Moment(MomentKind::Year))),
+        "gMonthDay" => Some(Kind::Ordered(OrderedKind::Moment(MomentKind::MonthDay))),
+        "gDay" => Some(Kind::Ordered(OrderedKind::Moment(MomentKind::Day))),
+        "gMonth" => Some(Kind::Ordered(OrderedKind::Moment(MomentKind::Month))),
+        "hexBinary" => Some(Kind::Text(TextKind::Octets(OctetKind::Hex))),
+        "base64Binary" => Some(Kind::Text(TextKind::Octets(OctetKind::Base64))),
         _ => None,
     }
 }

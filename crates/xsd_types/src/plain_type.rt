@@ -6,15 +6,21 @@ ghost use Rattle.rng_model.specs.datatypes.Datatypes.{without, is_allowed_by, ar
 ghost use Rattle.rng_model.proofs.ValueLaws as laws;
 ghost use Rattle.rng_model.specs.xsd.Datatypes.{meaning_named};
 ghost use Rattle.xsd_types.specs.views.View.{plain_meaning};
-ghost use Rattle.xsd_types.specs.views.Kinds.{plain_maker, text_meaning};
+ghost use Rattle.xsd_types.specs.views.Kinds.{ordered_maker, plain_maker, text_meaning};
 ghost use Rattle.xsd_types.specs.views.Finding.{HasFault, IsMade};
 
+use crate::decimals::BoundedDecimal;
+use crate::durations::{DurationBound, Durations};
 use crate::fault::TypeFault;
+use crate::floats::{FloatBound, Floats};
 use crate::integers::Integer;
-use crate::kind::{Kind, TextKind, find_kind};
+use crate::kind::{Kind, OrderedKind, TextKind};
 use crate::lengths::lengths;
+use crate::limited::Limited;
 use crate::lists::List;
+use crate::moments::{MomentBound, Moments};
 use crate::normalized::NormalizedString;
+use crate::octets::Octets;
 use crate::words::{Word, WordKind};
 use rng_types::{Boolean, Datatype, Lengths, NcName, NmToken, XsdString, XsdToken};
 use std::alloc::Global;
@@ -30,7 +36,12 @@ pub enum PlainType {
     Word(Word),
     List(List),
     Boolean(Boolean),
+    Octets(Octets),
     Integer(Integer),
+    Decimal(BoundedDecimal),
+    Float(Limited<FloatBound, Floats>),
+    Duration(Limited<DurationBound, Durations>),
+    Moment(Limited<MomentBound, Moments>),
 }
 
 // the datatype of this kind with the parameters, if it takes them
@@ -47,6 +58,30 @@ pub(crate) fn plain_type(
         Kind::QName if params.is_empty() => Ok(PlainType::Word(qname())),
         Kind::Boolean | Kind::QName => Err(TypeFault::BadParameter),
         Kind::Integer(range) => Ok(PlainType::Integer(Integer::find(alloc, &range, params)?)),
+        Kind::Ordered(kind) => ordered_type(alloc, kind, params),
+    }
+}
+
+fn ordered_type(
+    alloc: Global,
+    kind: OrderedKind,
+    params: &[(String, String)],
+) -> Result<PlainType, TypeFault>
+    ensures { IsMade plain_meaning (ordered_maker kind (map parameter_of params.now)) result }
+{
+    match kind {
+        OrderedKind::Decimal => Ok(PlainType::Decimal(BoundedDecimal::find(alloc, params)?)),
+        OrderedKind::Duration => Ok(PlainType::Duration(Limited::find(alloc, Durations, params)?)),
+        OrderedKind::Float(kind) => Ok(PlainType::Float(Limited::find(
+            alloc,
+            Floats { kind },
+            params,
+        )?)),
+        OrderedKind::Moment(kind) => Ok(PlainType::Moment(Limited::find(
+            alloc,
+            Moments { kind },
+            params,
+        )?)),
     }
 }
 
@@ -61,6 +96,7 @@ fn with_lengths(kind: TextKind, lengths: Lengths) -> PlainType
         TextKind::NmToken => PlainType::NmToken(NmToken { lengths }),
         TextKind::Word(kind) => PlainType::Word(Word { kind, lengths }),
         TextKind::List(kind) => PlainType::List(List { kind, lengths }),
+        TextKind::Octets(kind) => PlainType::Octets(Octets { kind, lengths }),
     }
 }
 
@@ -100,7 +136,12 @@ impl Datatype for PlainType {
             PlainType::Word(datatype) => datatype.allows(text),
             PlainType::List(datatype) => datatype.allows(text),
             PlainType::Boolean(datatype) => datatype.allows(text),
+            PlainType::Octets(datatype) => datatype.allows(text),
             PlainType::Integer(datatype) => datatype.allows(text),
+            PlainType::Decimal(datatype) => datatype.allows(text),
+            PlainType::Float(datatype) => datatype.allows(text),
+            PlainType::Duration(datatype) => datatype.allows(text),
+            PlainType::Moment(datatype) => datatype.allows(text),
         }
     }
 
@@ -114,7 +155,12 @@ impl Datatype for PlainType {
             PlainType::Word(datatype) => datatype.equal(a, b),
             PlainType::List(datatype) => datatype.equal(a, b),
             PlainType::Boolean(datatype) => datatype.equal(a, b),
+            PlainType::Octets(datatype) => datatype.equal(a, b),
             PlainType::Integer(datatype) => datatype.equal(a, b),
+            PlainType::Decimal(datatype) => datatype.equal(a, b),
+            PlainType::Float(datatype) => datatype.equal(a, b),
+            PlainType::Duration(datatype) => datatype.equal(a, b),
+            PlainType::Moment(datatype) => datatype.equal(a, b),
         }
     }
 }

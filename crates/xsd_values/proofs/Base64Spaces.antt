@@ -8,7 +8,7 @@ use Rattle.std.proofs.lemmas.Bool.{and_parts, or_cases, not-true, eqb-true}
 use Rattle.rng_model.specs.datatypes.Texts.{is_blank_byte, pieces, collapse}
 use Rattle.rng_model.specs.plain.BlankRuns.{is_run_byte, is_run, HasRuns, no_run, then_run}
 use Rattle.rng_model.proofs.BlankRuns.{HasRuns-pieces}
-use Rattle.xsd_values.specs.Octets.{is_b64, is_b16, is_b04, is_padding, is_full, is_last, are_base64_groups, without_blanks}
+use Rattle.rng_model.specs.xsd.primitives.Octets.{is_b64, is_b16, is_b04, is_padding, is_full, is_last, are_base64_groups, without_blanks}
 use Rattle.xsd_values.proofs.Base64Grammar.{Takes, alone, with_space, AreGroups, group_and, three_octets, two_octets, one_octet}
 use Rattle.xsd_values.proofs.Base64Grammar.{IsBase64Binary, nothing, groups, kept, groups_if_grammar}
 

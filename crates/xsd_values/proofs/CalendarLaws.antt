@@ -2,7 +2,7 @@
 use Rattle.std.proofs.Common.{◌≡◌, ◌≤◌, ℕ, suc, ◌+◌, ◌-◌, ◌%◌, Bool, true, false, refl, ap, ◌∙◌, arith, not, ◌&&◌, ◌||◌, ◌==◌, cond}
 use Rattle.std.proofs.lemmas.Bool.{eqb-true, eqb-false}
 use Rattle.std.proofs.lemmas.Bool.Decides.{nat_tests}
-use Rattle.xsd_values.specs.Calendar.{year_numbered, is_leap, days_in_year, multiples_below, days_before_year, days_in_month, days_of_months, days_before}
+use Rattle.rng_model.specs.xsd.primitives.Calendar.{year_numbered, is_leap, days_in_year, multiples_below, days_before_year, days_in_month, days_of_months, days_before}
 
 -- ---- one more multiple of k is below the next number exactly if the number is a multiple
 

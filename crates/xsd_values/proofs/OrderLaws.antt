@@ -6,10 +6,10 @@ use Rattle.std.specs.Bool.{beq}
 use Rattle.std.specs.List.{list_all}
 use Rattle.std.proofs.lemmas.Bool.{and_parts, and_from, and_left, ltb-true, lt-ltb, le-ltb}
 use Rattle.std.proofs.lemmas.Bool.Decides.{nat_tests}
-use Rattle.xsd_values.specs.Calendar.{hour}
-use Rattle.xsd_values.specs.Decimals.{Decimal, scaled, decimals}
-use Rattle.xsd_values.specs.Zones.{Moment, is_before}
-use Rattle.xsd_values.specs.Durations.{Duration, is_less, added_to, four_months}
+use Rattle.rng_model.specs.xsd.primitives.Calendar.{hour}
+use Rattle.rng_model.specs.xsd.primitives.Decimals.{Decimal, scaled, decimals}
+use Rattle.rng_model.specs.xsd.primitives.Zones.{Moment, is_before}
+use Rattle.rng_model.specs.xsd.primitives.Durations.{Duration, is_less, added_to, four_months}
 
 -- ---- numbers
 

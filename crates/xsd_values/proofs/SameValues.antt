@@ -8,11 +8,11 @@ use Rattle.std.proofs.lemmas.Bool.Decides.{Decides-eqb, Decides-int_eq}
 use Rattle.rng_model.specs.datatypes.Texts.{Value, text, truth, number, numbers, same_value}
 use Rattle.rng_model.proofs.Truths.{same_truth}
 use Rattle.rng_model.proofs.ValueLaws.{same_value-is, same_value-self}
-use Rattle.xsd_values.specs.Decimals.{Decimal, same_decimal}
-use Rattle.xsd_values.specs.Floats.{same_float}
-use Rattle.xsd_values.specs.Zones.{Moment, same_moment}
-use Rattle.xsd_values.specs.Durations.{Duration, same_date_part, same_time_part, same_duration}
-use Rattle.xsd_values.specs.Values.{of_truth, of_integer, decimal, float, moment, duration}
+use Rattle.rng_model.specs.xsd.primitives.Decimals.{Decimal, same_decimal}
+use Rattle.rng_model.specs.xsd.primitives.Floats.{same_float}
+use Rattle.rng_model.specs.xsd.primitives.Zones.{Moment, same_moment}
+use Rattle.rng_model.specs.xsd.primitives.Durations.{Duration, same_date_part, same_time_part, same_duration}
+use Rattle.rng_model.specs.xsd.primitives.Values.{of_truth, of_integer, decimal, float, moment, duration}
 
 truth_decides : (a b : Bool) → Decides (beq a b) (a ≡ b)
 truth_decides true true = (λ e. refl, λ e. refl)
@@ -190,3 +190,17 @@ duration_again d =
 
 pub same_duration_value : (a b : Duration) → same_value (duration a) (duration b) ≡ same_duration a b
 same_duration_value = same_if duration (λ v. duration_from (parts v)) duration_again same_duration duration_is duration_self
+
+-- ---- two things with one value are the same
+
+pub one_decimal : (a b : Decimal) → same_value (decimal a) (decimal b) ≡ true → a ≡ b
+one_decimal a b e = decimal_is a b (sym (same_decimal_value a b) ∙ e)
+
+pub one_float : (a b : Float) → same_value (float a) (float b) ≡ true → a ≡ b
+one_float a b e = float_is a b (sym (same_float_value a b) ∙ e)
+
+pub one_moment : (a b : Moment) → same_value (moment a) (moment b) ≡ true → a ≡ b
+one_moment a b e = moment_is a b (sym (same_moment_value a b) ∙ e)
+
+pub one_duration : (a b : Duration) → same_value (duration a) (duration b) ≡ true → a ≡ b
+one_duration a b e = duration_is a b (sym (same_duration_value a b) ∙ e)

@@ -1,7 +1,7 @@
 -- A moment that is written in another time zone is the same: clock and zone are shifted by as much.
 use Rattle.std.proofs.Common.{◌≡◌, ℕ, ◌+◌, ◌*◌, true, ap, arith}
-use Rattle.xsd_values.specs.Calendar.{minute}
-use Rattle.xsd_values.specs.Zones.{Moment, ahead, behind, in_zone}
+use Rattle.rng_model.specs.xsd.primitives.Calendar.{minute}
+use Rattle.rng_model.specs.xsd.primitives.Zones.{Moment, ahead, behind, in_zone}
 
 abbrev known : ℕ → Moment
 known n = record { zoned = true; at = n }

@@ -1,12 +1,2 @@
-pub mod Decimals
-pub mod Floats
-pub mod Octets
-pub mod Calendar
-pub mod Fronts
-pub mod Zones
-pub mod Moments
-pub mod Durations
 pub mod UriCharacters
 pub mod Uris
-pub mod Values
-pub mod Types

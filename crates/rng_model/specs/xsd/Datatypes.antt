@@ -1,8 +1,7 @@
 -- The set `XmlSchema` of datatypes: a table of the types of XML Schema, each with the parameters that it takes and the value
 -- of each text (XML Schema Part 2, Second Edition, section 3; RELAX NG Specification, sections 4.16, 6.2.8 and 6.2.9).
---
--- A type that is not in the table is not served yet: decimal, the floats, dates, durations and octets.
 use Rattle.std.specs.Prelude.{codes, ℕ, List, [], ◌∷◌, ◌++◌, Bool, Option, None, not, ◌||◌}
+use Rattle.std.specs.Float.{binary32, binary64}
 use Rattle.std.specs.Option.{option_map, option_and_then}
 use Rattle.std.specs.Str.{bytes_eq}
 use Rattle.rng_model.specs.simple.Tree.{Datatype}
@@ -15,6 +14,13 @@ use Rattle.rng_model.specs.xsd.Names.{replaced}
 use Rattle.rng_model.specs.xsd.Numbers.{written_integer}
 use Rattle.rng_model.specs.xsd.Facets.{written_lengths}
 use Rattle.rng_model.specs.xsd.Integers.{written_facets}
+use Rattle.rng_model.specs.xsd.primitives.Floats.{floats}
+use Rattle.rng_model.specs.xsd.primitives.Octets.{hex_length, hex_binary_of, base64_length, base64_binary_of}
+use Rattle.rng_model.specs.xsd.primitives.Zones.{ordered_by}
+use Rattle.rng_model.specs.xsd.primitives.Moments.{date_time_of, time_of, date_of, year_month_of, year_of, month_day_of, day_of, month_of}
+use Rattle.rng_model.specs.xsd.primitives.Durations.{durations}
+use Rattle.rng_model.specs.xsd.primitives.Values.{float, moment, duration}
+use Rattle.rng_model.specs.xsd.primitives.Types.{with_limits, with_decimal_facets, with_octets}
 use Rattle.rng_model.specs.xsd.Types.{xsd_normalized, xsd_language, xsd_name, xsd_qname, xsd_nmtokens, xsd_ncnames, xsd_number}
 
 -- ---- the parameters of each type besides `pattern`
@@ -93,8 +99,26 @@ number_types =
     (codes "unsignedByte", from_to (codes "0") (codes "255")) ∷  -- 3.3.21 to 3.3.24
     (codes "positiveInteger", from (codes "1")) ∷ []  -- 3.3.25
 
+-- the primitive types whose values are no texts
+abbrev pub primitive_types : List (List ℕ × Maker)
+primitive_types =
+    (codes "decimal", collapsing with_decimal_facets) ∷  -- 3.2.3
+    (codes "float", collapsing (with_limits float (floats binary32))) ∷  -- 3.2.4
+    (codes "double", collapsing (with_limits float (floats binary64))) ∷  -- 3.2.5
+    (codes "duration", collapsing (with_limits duration durations)) ∷  -- 3.2.6
+    (codes "dateTime", collapsing (with_limits moment (ordered_by date_time_of))) ∷  -- 3.2.7
+    (codes "time", collapsing (with_limits moment (ordered_by time_of))) ∷  -- 3.2.8
+    (codes "date", collapsing (with_limits moment (ordered_by date_of))) ∷  -- 3.2.9
+    (codes "gYearMonth", collapsing (with_limits moment (ordered_by year_month_of))) ∷  -- 3.2.10
+    (codes "gYear", collapsing (with_limits moment (ordered_by year_of))) ∷  -- 3.2.11
+    (codes "gMonthDay", collapsing (with_limits moment (ordered_by month_day_of))) ∷  -- 3.2.12
+    (codes "gDay", collapsing (with_limits moment (ordered_by day_of))) ∷  -- 3.2.13
+    (codes "gMonth", collapsing (with_limits moment (ordered_by month_of))) ∷  -- 3.2.14
+    (codes "hexBinary", collapsing (with_octets hex_binary_of hex_length)) ∷  -- 3.2.15
+    (codes "base64Binary", collapsing (with_octets base64_binary_of base64_length)) ∷ []  -- 3.2.16
+
 abbrev pub complete_types : List (List ℕ × Maker)
-complete_types = text_types ++ number_types
+complete_types = text_types ++ number_types ++ primitive_types
 
 -- The value of a text in QName or NOTATION depends on what its prefix is declared as, so that no text may be given as a
 -- value of these types.

@@ -8,6 +8,8 @@ use Rattle.rng_types.specs.views.View.{lengths_of}
 use Rattle.rng_model.specs.xsd.Names.{is_name, is_language, is_qname}
 use Rattle.rng_model.specs.xsd.Types.{xsd_normalized, xsd_word, xsd_list}
 use Rattle.xsd_types.specs.views.Numbers.{number_meaning}
+use Rattle.xsd_types.specs.views.Octets.{octets_by}
+use Rattle.xsd_types.specs.views.Ordered.{decimal_by, float_by, duration_by, moment_by}
 use Rattle.xsd_types.specs.declared.words.WordKind.{WordKind}
 use Rattle.xsd_types.specs.declared.words.WordKind.TheVariants as words
 use Rattle.xsd_types.specs.declared.lists.ItemKind.{ItemKind}
@@ -40,7 +42,12 @@ plain_meaning (types.NmToken d) = xsd_nmtoken (lengths_of d.lengths)
 plain_meaning (types.Word d) = xsd_word (word_test d.kind) (lengths_of d.lengths)
 plain_meaning (types.List d) = xsd_list (item_test d.kind) (lengths_of d.lengths)
 plain_meaning (types.Boolean d) = xsd_boolean
+plain_meaning (types.Octets d) = octets_by d.kind (lengths_of d.lengths)
 plain_meaning (types.Integer d) = number_meaning d
+plain_meaning (types.Decimal d) = decimal_by d
+plain_meaning (types.Float d) = float_by d
+plain_meaning (types.Duration d) = duration_by d
+plain_meaning (types.Moment d) = moment_by d
 
 abbrev pub meaning_by : XsdType → Meaning
 meaning_by d = restricted d.patterns (plain_meaning d.plain)

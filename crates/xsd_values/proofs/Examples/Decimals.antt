@@ -5,7 +5,8 @@ use Rattle.rng_model.specs.datatypes.Facets as old
 use Rattle.rng_model.specs.xsd.Numbers.{integer_of}
 use Rattle.rng_model.specs.xsd.Limits.{written_limits}
 use Rattle.rng_model.specs.xsd.Integers.{written_facets}
-use Rattle.xsd_values.specs.Decimals.{decimal_of, written_decimal_facets}
+use Rattle.rng_model.specs.xsd.primitives.Decimals.{decimal_of, written_decimal_facets}
+use Rattle.rng_model.specs.regexes.Patterns.{patterns_of}
 use Rattle.xsd_values.proofs.Examples.Tables.{allows, equates}
 
 -- ---- texts: the examples of section 3.2.3.1, and what has no digit or something else
@@ -61,27 +62,27 @@ exponent = refl
 -- ---- values with facets: the table allows and equates
 
 same_number : equates (codes "decimal") (codes "1.0") (codes " 01.000 ") ≡ true
-unfolding collapse pieces decimal_of written_limits
+unfolding collapse pieces decimal_of written_limits patterns_of
 same_number = refl
 
 another_number : equates (codes "decimal") (codes "1.0") (codes "1.01") ≡ false
-unfolding collapse pieces decimal_of written_limits
+unfolding collapse pieces decimal_of written_limits patterns_of
 another_number = refl
 
 many_places : equates (codes "decimal") (codes "0.100000000000000000000000000000000000000000000000001") (codes "0.1") ≡ false
-unfolding collapse pieces decimal_of written_limits
+unfolding collapse pieces decimal_of written_limits patterns_of
 many_places = refl
 
 ten_above_nine : allows (codes "decimal") ((codes "minExclusive", codes "9.99") ∷ []) (codes "10") ≡ true
-unfolding collapse pieces decimal_of written_limits
+unfolding collapse pieces decimal_of written_limits patterns_of
 ten_above_nine = refl
 
 below : allows (codes "decimal") ((codes "maxExclusive", codes "-0.5") ∷ []) (codes "-0.50") ≡ false
-unfolding collapse pieces decimal_of written_limits
+unfolding collapse pieces decimal_of written_limits patterns_of
 below = refl
 
 at_bound : allows (codes "decimal") ((codes "maxInclusive", codes "-0.5") ∷ []) (codes "-0.50") ≡ true
-unfolding collapse pieces decimal_of written_limits
+unfolding collapse pieces decimal_of written_limits patterns_of
 at_bound = refl
 
 -- ---- digits: zeros at the ends do not count (sections 4.3.11 and 4.3.12)
@@ -90,34 +91,34 @@ total_of : List ℕ → Bool
 total_of s = allows (codes "decimal") ((codes "totalDigits", codes "3") ∷ []) s
 
 three_digits : total_of (codes "0123.0") ≡ true
-unfolding total_of collapse pieces integer_of decimal_of written_limits
+unfolding total_of collapse pieces integer_of decimal_of written_limits patterns_of
 three_digits = refl
 
 zero_at_end : total_of (codes "1.230") ≡ true
-unfolding total_of collapse pieces integer_of decimal_of written_limits
+unfolding total_of collapse pieces integer_of decimal_of written_limits patterns_of
 zero_at_end = refl
 
 four_digits : total_of (codes "123.4") ≡ false
-unfolding total_of collapse pieces integer_of decimal_of written_limits
+unfolding total_of collapse pieces integer_of decimal_of written_limits patterns_of
 four_digits = refl
 
 three_places : total_of (codes "0.001") ≡ true
-unfolding total_of collapse pieces integer_of decimal_of written_limits
+unfolding total_of collapse pieces integer_of decimal_of written_limits patterns_of
 three_places = refl
 
 four_places : total_of (codes "0.0001") ≡ false
-unfolding total_of collapse pieces integer_of decimal_of written_limits
+unfolding total_of collapse pieces integer_of decimal_of written_limits patterns_of
 four_places = refl
 
 fraction_of : List ℕ → Bool
 fraction_of s = allows (codes "decimal") ((codes "fractionDigits", codes "1") ∷ []) s
 
 one_digit_behind : fraction_of (codes "1.20") ≡ true
-unfolding fraction_of collapse pieces integer_of decimal_of written_limits
+unfolding fraction_of collapse pieces integer_of decimal_of written_limits patterns_of
 one_digit_behind = refl
 
 two_digits_behind : fraction_of (codes "1.23") ≡ false
-unfolding fraction_of collapse pieces integer_of decimal_of written_limits
+unfolding fraction_of collapse pieces integer_of decimal_of written_limits patterns_of
 two_digits_behind = refl
 
 -- ---- which parameters are taken

@@ -2,29 +2,30 @@
 use Rattle.std.proofs.Common.{codes, ◌≡◌, ℕ, List, [], ◌∷◌, refl, true, false, Bool, Option, Some, None, is_some}
 use Rattle.rng_model.specs.datatypes.Texts.{collapse, pieces}
 use Rattle.rng_model.specs.xsd.Limits.{written_limits}
-use Rattle.xsd_values.specs.Durations.{Duration, duration_of, is_less, durations}
+use Rattle.rng_model.specs.xsd.primitives.Durations.{Duration, duration_of, is_less, durations}
+use Rattle.rng_model.specs.regexes.Patterns.{patterns_of}
 use Rattle.xsd_values.proofs.Examples.Tables.{allows, equates}
 
 -- ---- equality: each of the six numbers, and no sign at zero
 
 other_numbers : equates (codes "duration") (codes "P1Y") (codes "P12M") ≡ false
-unfolding duration_of collapse pieces written_limits
+unfolding duration_of collapse pieces written_limits patterns_of
 other_numbers = refl
 
 left_out : equates (codes "duration") (codes "P1Y") (codes "P1Y0M") ≡ true
-unfolding duration_of collapse pieces written_limits
+unfolding duration_of collapse pieces written_limits patterns_of
 left_out = refl
 
 minutes_or_seconds : equates (codes "duration") (codes "PT60S") (codes "PT1M") ≡ false
-unfolding duration_of collapse pieces written_limits
+unfolding duration_of collapse pieces written_limits patterns_of
 minutes_or_seconds = refl
 
 zero_fraction : equates (codes "duration") (codes "PT60S") (codes "PT60.0S") ≡ true
-unfolding duration_of collapse pieces written_limits
+unfolding duration_of collapse pieces written_limits patterns_of
 zero_fraction = refl
 
 zeros : equates (codes "duration") (codes "-P0D") (codes "P0D") ≡ true
-unfolding duration_of collapse pieces written_limits
+unfolding duration_of collapse pieces written_limits patterns_of
 zeros = refl
 
 -- ---- order: the table of section 3.2.6.2
@@ -94,19 +95,19 @@ below_zero = refl
 -- ---- bounds: one that is neither less nor greater does not allow the value
 
 undecided : allows (codes "duration") ((codes "minInclusive", codes "P30D") ∷ []) (codes "P1M") ≡ false
-unfolding duration_of collapse pieces written_limits
+unfolding duration_of collapse pieces written_limits patterns_of
 undecided = refl
 
 at_bound : allows (codes "duration") ((codes "minInclusive", codes "P30D") ∷ []) (codes "P30D") ≡ true
-unfolding duration_of collapse pieces written_limits
+unfolding duration_of collapse pieces written_limits patterns_of
 at_bound = refl
 
 above : allows (codes "duration") ((codes "minInclusive", codes "P30D") ∷ []) (codes "P2M") ≡ true
-unfolding duration_of collapse pieces written_limits
+unfolding duration_of collapse pieces written_limits patterns_of
 above = refl
 
 below : allows (codes "duration") ((codes "maxExclusive", codes "P32D") ∷ []) (codes "P1M") ≡ true
-unfolding duration_of collapse pieces written_limits
+unfolding duration_of collapse pieces written_limits patterns_of
 below = refl
 
 -- two bounds that cannot be compared do not stand together, and neither do two at one end

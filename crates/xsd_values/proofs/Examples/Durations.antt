@@ -1,7 +1,7 @@
 -- Worked cases of duration, which the checker computes.
 use Rattle.std.proofs.Common.{codes, ◌≡◌, [], ◌∷◌, refl, true, is_some, is_none}
 use Rattle.std.specs.List.{list_all}
-use Rattle.xsd_values.specs.Durations.{duration_of}
+use Rattle.rng_model.specs.xsd.primitives.Durations.{duration_of}
 
 -- ---- texts: the examples of section 3.2.6.1
 

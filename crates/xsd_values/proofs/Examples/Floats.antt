@@ -6,7 +6,8 @@ use Rattle.std.specs.Float.Parse.{read_float}
 use lib.Ieee.{round, lt}
 use Rattle.rng_model.specs.datatypes.Texts.{collapse, pieces}
 use Rattle.rng_model.specs.xsd.Limits.{written_limits}
-use Rattle.xsd_values.specs.Floats.{float_of}
+use Rattle.rng_model.specs.xsd.primitives.Floats.{float_of}
+use Rattle.rng_model.specs.regexes.Patterns.{patterns_of}
 use Rattle.xsd_values.proofs.Examples.Tables.{allows, equates}
 
 -- ---- texts: the examples of section 3.2.4.1, and words that are none of the type
@@ -58,51 +59,51 @@ hexadecimal = refl
 -- ---- equality
 
 zeros : equates (codes "float") (codes "0") (codes "-0") ≡ true
-unfolding float_of round scan_numeral read_float collapse pieces written_limits
+unfolding float_of round scan_numeral read_float collapse pieces written_limits patterns_of
 zeros = refl
 
 nearest_even : equates (codes "float") (codes "16777216") (codes "16777217") ≡ true
-unfolding float_of round scan_numeral read_float collapse pieces written_limits
+unfolding float_of round scan_numeral read_float collapse pieces written_limits patterns_of
 nearest_even = refl
 
 exact_double : equates (codes "double") (codes "16777216") (codes "16777217") ≡ false
-unfolding float_of round scan_numeral read_float collapse pieces written_limits
+unfolding float_of round scan_numeral read_float collapse pieces written_limits patterns_of
 exact_double = refl
 
 too_large : equates (codes "double") (codes "1e400") (codes "INF") ≡ true
-unfolding float_of round scan_numeral read_float collapse pieces written_limits
+unfolding float_of round scan_numeral read_float collapse pieces written_limits patterns_of
 too_large = refl
 
 same_nan : equates (codes "float") (codes "NaN") (codes "NaN") ≡ true
-unfolding float_of round scan_numeral read_float collapse pieces written_limits
+unfolding float_of round scan_numeral read_float collapse pieces written_limits patterns_of
 same_nan = refl
 
 -- ---- bounds: NaN is within none but itself
 
 nan_above_zero : allows (codes "float") ((codes "minInclusive", codes "0") ∷ []) (codes "NaN") ≡ false
-unfolding float_of round scan_numeral read_float lt collapse pieces written_limits
+unfolding float_of round scan_numeral read_float lt collapse pieces written_limits patterns_of
 nan_above_zero = refl
 
 zero_below_nan : allows (codes "float") ((codes "maxInclusive", codes "NaN") ∷ []) (codes "0") ≡ false
-unfolding float_of round scan_numeral read_float lt collapse pieces written_limits
+unfolding float_of round scan_numeral read_float lt collapse pieces written_limits patterns_of
 zero_below_nan = refl
 
 nan_only : allows (codes "float") ((codes "maxInclusive", codes "NaN") ∷ []) (codes "NaN") ≡ true
-unfolding float_of round scan_numeral read_float lt collapse pieces written_limits
+unfolding float_of round scan_numeral read_float lt collapse pieces written_limits patterns_of
 nan_only = refl
 
 nan_exclusive : allows (codes "float") ((codes "maxExclusive", codes "NaN") ∷ []) (codes "NaN") ≡ false
-unfolding float_of round scan_numeral read_float lt collapse pieces written_limits
+unfolding float_of round scan_numeral read_float lt collapse pieces written_limits patterns_of
 nan_exclusive = refl
 
 minus_zero_at_zero : allows (codes "float") ((codes "minInclusive", codes "0") ∷ []) (codes "-0") ≡ true
-unfolding float_of round scan_numeral read_float lt collapse pieces written_limits
+unfolding float_of round scan_numeral read_float lt collapse pieces written_limits patterns_of
 minus_zero_at_zero = refl
 
 too_small : allows (codes "double") ((codes "minExclusive", codes "-0") ∷ []) (codes "1e-400") ≡ false
-unfolding float_of round scan_numeral read_float lt collapse pieces written_limits
+unfolding float_of round scan_numeral read_float lt collapse pieces written_limits patterns_of
 too_small = refl
 
 infinity_above : allows (codes "float") ((codes "minInclusive", codes "0") ∷ []) (codes "INF") ≡ true
-unfolding float_of round scan_numeral read_float lt collapse pieces written_limits
+unfolding float_of round scan_numeral read_float lt collapse pieces written_limits patterns_of
 infinity_above = refl

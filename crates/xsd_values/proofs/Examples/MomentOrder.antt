@@ -3,8 +3,9 @@ use Rattle.std.proofs.Common.{codes, ◌≡◌, ℕ, List, [], ◌∷◌, refl, 
 use Rattle.std.specs.List.{list_all}
 use Rattle.rng_model.specs.datatypes.Texts.{collapse, pieces}
 use Rattle.rng_model.specs.xsd.Limits.{written_limits}
-use Rattle.xsd_values.specs.Zones.{Moment, is_before}
-use Rattle.xsd_values.specs.Moments.{date_time_of, time_of, date_of, year_of}
+use Rattle.rng_model.specs.xsd.primitives.Zones.{Moment, is_before}
+use Rattle.rng_model.specs.xsd.primitives.Moments.{date_time_of, time_of, date_of, year_of}
+use Rattle.rng_model.specs.regexes.Patterns.{patterns_of}
 use Rattle.xsd_values.proofs.Examples.Tables.{allows, equates}
 
 -- ---- equality
@@ -20,37 +21,37 @@ same_instant : are_equal (codes "dateTime") (
     (codes "2000-01-01T24:00:00", codes "2000-01-02T00:00:00") ∷
     (codes "2000-03-04T23:00:00+03:00", codes "2000-03-04T20:00:00Z") ∷  -- of section 3.2.7.4
     []) ≡ true
-unfolding date_time_of collapse pieces written_limits
+unfolding date_time_of collapse pieces written_limits patterns_of
 same_instant = refl
 
 another_instant : are_unequal (codes "dateTime") (
     (codes "2000-01-01T00:00:00Z", codes "2000-01-01T00:00:00") ∷  -- a time zone, and none
     (codes "2000-01-01T00:00:00.0001", codes "2000-01-01T00:00:00.0") ∷  -- less than a millisecond
     []) ≡ true
-unfolding date_time_of collapse pieces written_limits
+unfolding date_time_of collapse pieces written_limits patterns_of
 another_instant = refl
 
 same_day : are_equal (codes "date") (
     (codes "2002-10-10+13:00", codes "2002-10-09-11:00") ∷  -- of section 3.2.9
     []) ≡ true
-unfolding date_of collapse pieces written_limits
+unfolding date_of collapse pieces written_limits patterns_of
 same_day = refl
 
 another_day : are_unequal (codes "date") (
     (codes "2000-01-01Z", codes "2000-01-01+12:00") ∷ (codes "2000-01-01", codes "2000-01-01Z") ∷ []) ≡ true
-unfolding date_of collapse pieces written_limits
+unfolding date_of collapse pieces written_limits patterns_of
 another_day = refl
 
 same_time : are_equal (codes "time") (
     (codes "00:00:00Z", codes "05:00:00+05:00") ∷
     (codes "00:00:00Z", codes "19:00:00-05:00") ∷  -- the same time of day
     (codes "00:00:00Z", codes "24:00:00Z") ∷ []) ≡ true
-unfolding time_of collapse pieces written_limits
+unfolding time_of collapse pieces written_limits patterns_of
 same_time = refl
 
 another_year : are_unequal (codes "gYear") (
     (codes "2000", codes "2000Z") ∷ []) ≡ true
-unfolding year_of collapse pieces written_limits
+unfolding year_of collapse pieces written_limits patterns_of
 another_year = refl
 
 -- ---- order: the table of section 3.2.7.4
@@ -84,13 +85,13 @@ indeterminate = refl
 -- ---- bounds
 
 at_bound : allows (codes "dateTime") ((codes "minInclusive", codes "2000-01-01T00:00:00Z") ∷ []) (codes "1999-12-31T19:00:00-05:00") ≡ true
-unfolding date_time_of collapse pieces written_limits
+unfolding date_time_of collapse pieces written_limits patterns_of
 at_bound = refl
 
 undecided : allows (codes "dateTime") ((codes "minInclusive", codes "2000-01-01T00:00:00Z") ∷ []) (codes "2000-01-01T14:00:00") ≡ false
-unfolding date_time_of collapse pieces written_limits
+unfolding date_time_of collapse pieces written_limits patterns_of
 undecided = refl
 
 decided : allows (codes "dateTime") ((codes "maxExclusive", codes "2000-01-01T00:00:00") ∷ []) (codes "1999-12-31T09:59:59Z") ≡ true
-unfolding date_time_of collapse pieces written_limits
+unfolding date_time_of collapse pieces written_limits patterns_of
 decided = refl

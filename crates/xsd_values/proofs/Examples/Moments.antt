@@ -1,8 +1,8 @@
 -- Worked cases of moments, which the checker computes.
 use Rattle.std.proofs.Common.{codes, ◌≡◌, ℕ, List, [], ◌∷◌, refl, true, Bool, Option, is_some, is_none}
 use Rattle.std.specs.List.{list_all}
-use Rattle.xsd_values.specs.Zones.{Moment}
-use Rattle.xsd_values.specs.Moments.{date_time_of, time_of, date_of, year_month_of, year_of, month_day_of, day_of, month_of}
+use Rattle.rng_model.specs.xsd.primitives.Zones.{Moment}
+use Rattle.rng_model.specs.xsd.primitives.Moments.{date_time_of, time_of, date_of, year_month_of, year_of, month_day_of, day_of, month_of}
 
 abbrev are_moments : (List ℕ → Option Moment) → List (List ℕ) → Bool
 are_moments moment_of texts = list_all (λ s. is_some (moment_of s)) texts

@@ -2,11 +2,10 @@
 use Rattle.std.specs.Prelude.{ℕ, List, [], Bool}
 use Rattle.rng_model.specs.datatypes.Facets.{Parameter}
 use Rattle.rng_model.specs.datatypes.Datatypes as datatypes
-use Rattle.xsd_values.specs.Types.{meaning_named}
-use Rattle.xsd_values.proofs.MatchedUris.{is_uri}
+use Rattle.rng_model.specs.xsd.Datatypes.{meaning_named}
 
 abbrev pub allows : List ℕ → List Parameter → List ℕ → Bool
-allows name ps s = datatypes.known_allows (meaning_named is_uri name ps) s
+allows name ps s = datatypes.known_allows (meaning_named name ps) s
 
 abbrev pub equates : List ℕ → List ℕ → List ℕ → Bool
-equates name v w = datatypes.known_equates (meaning_named is_uri name []) v w
+equates name v w = datatypes.known_equates (meaning_named name []) v w

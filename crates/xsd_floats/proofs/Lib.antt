@@ -1,0 +1,3 @@
+pub mod OddParts
+pub mod Comparisons
+pub mod WrittenNumbers

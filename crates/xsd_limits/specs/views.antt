@@ -1,0 +1,2 @@
+-- Views of types.
+pub mod Limits

@@ -1,0 +1,4 @@
+pub mod CalendarBounds
+pub mod Digits
+pub mod FrontRuns
+pub mod ZoneRuns
