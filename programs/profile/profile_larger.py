@@ -1,27 +1,26 @@
 """What the larger set of datatypes serves (docs/use/LANGUAGE.md, "The larger set"), and what a copy has in place of the rest. Nothing here is proved."""
+import operator
 import re
 
 from profile_types import (ALLOWED, BOTH, BOUNDS, COMPATIBILITY, FACETS, INTEGERS, LISTS, MORE, NAME_CHARACTER, SAME, UNSIGNED, XSD, NotBroughtOver, Reported,
                            is_within, other_type, schema_type, written, wrong)
+from profile_values import OCTETS, ORDERED, Ordered, collapsed, octets
 
 TEXTS = ("string", "normalizedString", "token", "language", "Name", "NCName", "NMTOKEN", "ID", "IDREF", "ENTITY", "anyURI")
 CONTEXT = ("QName", "NOTATION")
 BOUNDS_OF = {"integer": (None, None), **INTEGERS, **UNSIGNED}
-SERVED = (*TEXTS, *LISTS, *CONTEXT, "boolean", *BOUNDS_OF)
+SERVED = (*TEXTS, *LISTS, *CONTEXT, "boolean", *BOUNDS_OF, *ORDERED, *OCTETS)
 LENGTHS = ("length", "minLength", "maxLength")
 MOST_COUNTED = 2 ** 63 - 1
 NCNAME, INTEGER = ALLOWED["NCName"], "[+-]?[0-9]+"
 TEXT_OF = {"language": "[A-Za-z]{1,8}(-[A-Za-z0-9]{1,8})*", "Name": rf"(?![-.0-9\xb7\u0300-\u036f\u203f\u2040])[{NAME_CHARACTER}]+",
            "NMTOKEN": ALLOWED["NMTOKEN"], "NMTOKENS": rf"{ALLOWED['NMTOKEN']}( {ALLOWED['NMTOKEN']})*", "boolean": ALLOWED["boolean"],
            **dict.fromkeys(("NCName", "ID", "IDREF", "ENTITY"), NCNAME)}
-# Pairs of parameters that exclude each other, and pairs of a lower and an upper one, with the least distance between the two.
+DIGITS = ("totalDigits", "fractionDigits")
+# Pairs of parameters that exclude each other, and pairs of a lower and an upper one, with whether the lower one has to be less.
 EXCLUSIVE = (("length", "minLength"), ("length", "maxLength"), ("minInclusive", "minExclusive"), ("maxInclusive", "maxExclusive"))
-IN_ORDER = {("minLength", "maxLength"): 0, ("minInclusive", "maxInclusive"): 0, ("minInclusive", "maxExclusive"): 1, ("minExclusive", "maxInclusive"): 1,
-            ("minExclusive", "maxExclusive"): 0}
-
-
-def collapsed(text):
-    return " ".join(re.split("[ \t\r\n]+", text.strip(" \t\r\n")))
+IN_ORDER = {("minLength", "maxLength"): False, ("minInclusive", "maxInclusive"): False, ("minInclusive", "maxExclusive"): True,
+            ("minExclusive", "maxInclusive"): True, ("minExclusive", "maxExclusive"): False, ("fractionDigits", "totalDigits"): False}
 
 
 def integer(text):
@@ -34,6 +33,10 @@ def allows(name, text):
     if name in BOUNDS_OF:
         number = integer(text)
         return number is not None and is_within(number, BOUNDS_OF[name])
+    if name in ORDERED:
+        return ORDERED[name].value_of(collapsed(text)) is not None
+    if name in OCTETS:
+        return octets(name, collapsed(text)) is not None
     if name in LISTS:
         pieces = collapsed(text).split(" ")
         return all(re.fullmatch(TEXT_OF[LISTS[name]], piece) for piece in pieces)
@@ -42,19 +45,31 @@ def allows(name, text):
 
 def takes(name, parameter):
     """Whether a type takes the parameter."""
-    if name in BOUNDS_OF:
-        return parameter in (*BOUNDS, "totalDigits", "fractionDigits", "pattern")
-    return parameter == "pattern" or parameter in LENGTHS and name in (*TEXTS, *LISTS)
+    if parameter in BOUNDS:
+        return name in BOUNDS_OF or name in ORDERED
+    if parameter in DIGITS:
+        return name in BOUNDS_OF or name == "decimal"
+    return parameter == "pattern" or parameter in LENGTHS and name in (*TEXTS, *LISTS, *OCTETS)
 
 
-def check_number(param, name):
-    """The number in a parameter that the type takes."""
+def count_of(param, name):
+    """The number that a length, or a number of digits, writes; None if it may not have it."""
     number = integer(param.value)
-    counted = (1 if param.name == "totalDigits" else 0, 0 if param.name == "fractionDigits" else MOST_COUNTED)
-    least, greatest = BOUNDS_OF[name] if param.name in BOUNDS else counted
-    if number is None or not is_within(number, (least, greatest)):
+    least, greatest = 1 if param.name == "totalDigits" else 0, 0 if param.name == "fractionDigits" and name != "decimal" else MOST_COUNTED
+    return number if number is not None and is_within(number, (least, greatest)) else None
+
+
+def check_value(param, name):
+    """The value of a parameter that the type takes."""
+    if param.name not in BOUNDS:
+        value = count_of(param, name)
+    elif name in ORDERED:
+        value = ORDERED[name].value_of(collapsed(param.value))
+    else:
+        value = integer(param.value) if allows(name, param.value) else None
+    if value is None:
         raise NotBroughtOver(Reported(param.at, f"xsd:{name} does not allow the {param.name} {param.value!r}"))
-    return number
+    return value
 
 
 def left_out(param, name):
@@ -64,29 +79,35 @@ def left_out(param, name):
     return Reported(param.at, f"the parameter {param.name} is not served", f"no {param.name}", MORE)
 
 
-def check_pairs(numbers):
-    """Finds parameters that exclude each other. `numbers` has each parameter and its number, by name."""
-    for one, other in (*EXCLUSIVE, *IN_ORDER):
-        if one in numbers and other in numbers:
-            (first, low), (second, high) = numbers[one], numbers[other]
-            if (one, other) not in IN_ORDER or high - low < IN_ORDER[one, other]:
-                raise NotBroughtOver(Reported(max(first.at, second.at), f"the parameters {one} and {other} exclude each other"))
+def is_in_order(pair, low, high, name):
+    """Whether values of a pair of parameters suit each other. Where two are not comparable, they do not."""
+    order = ORDERED[name] if name in ORDERED and pair[0] in BOUNDS else Ordered(None, operator.le, operator.lt)
+    return (order.is_less if IN_ORDER[pair] else order.is_at_most)(low, high)
+
+
+def check_pairs(values, name):
+    """Finds parameters that exclude each other. `values` has each parameter and its value, by name."""
+    for pair in (*EXCLUSIVE, *IN_ORDER):
+        if values.keys() >= set(pair):
+            (first, low), (second, high) = values[pair[0]], values[pair[1]]
+            if pair not in IN_ORDER or not is_in_order(pair, low, high, name):
+                raise NotBroughtOver(Reported(max(first.at, second.at), f"the parameters {pair[0]} and {pair[1]} exclude each other"))
 
 
 def data_use(use):
     """The type with the parameters that it takes, and what is reported about the others. Nobody looks into a pattern here."""
-    numbers, patterns, reported = {}, [], []
+    values, patterns, reported = {}, [], []
     for param in use.params:
         if not takes(use.name, param.name):
             reported.append(left_out(param, use.name))
         elif param.name == "pattern":
             patterns.append(("pattern", param.value))
-        elif param.name in numbers:
+        elif param.name in values:
             raise NotBroughtOver(Reported(param.at, f"the parameter {param.name} appears twice"))
         else:
-            numbers[param.name] = param, check_number(param, use.name)
-    check_pairs(numbers)
-    return written(use.name, [(param.name, collapsed(param.value)) for param, _ in numbers.values()] + patterns), reported
+            values[param.name] = param, check_value(param, use.name)
+    check_pairs(values, use.name)
+    return written(use.name, [(param.name, collapsed(param.value)) for param, _ in values.values()] + patterns), reported
 
 
 def served_use(use):

@@ -16,7 +16,7 @@ cc=${CC:-cc}
 flags="-std=c17 -Wall -Wextra -Wconversion -Werror -pedantic -D_XOPEN_SOURCE=700 -D_FILE_OFFSET_BITS=64 -fPIC -ffunction-sections -fdata-sections"
 . "$here/parser.sh"
 rng="rng_tree rng_namespaces rng_grammar rng_uri rng_prefixes rng_words rng_patterns rng_writer"
-hints="schema_pattern schema_types schema_tree schema_grammars schema_words schema_restrictions schema_hints schema_datatypes"
+hints="schema_asked schema_types schema_tree schema_grammars schema_words schema_restrictions schema_hints schema_datatypes"
 merging="schema_walk schema_merging schema_merged_text"
 schemas="schema_tokens annotation_names schema_annotations xml_names origins $rng catalogs $hints schema_files schema_xml $merging"
 ids="text_table id_form id_types id_check schema_ids"

@@ -102,8 +102,8 @@ enum {
 /* The sets of datatypes that a schema may name (docs/use/LANGUAGE.md). The URI that is empty has `string` and `token` in both. In the library of XML Schema: */
 enum rncv_datatypes {
     RNCV_DATATYPES_PROFILE = 0,   /* string, token, NCName, NMTOKEN, boolean, and integer of at most 38 digits */
-    RNCV_DATATYPES_XML_SCHEMA = 1 /* these, with integers of any length; normalizedString, language, Name, NMTOKENS, ID, IDREF, IDREFS, ENTITY, ENTITIES,
-                                     anyURI, QName, NOTATION, and the twelve types of integers with bounds of their own; with more parameters, `pattern` too */
+    RNCV_DATATYPES_XML_SCHEMA = 1 /* all of XML Schema Part 2, with all of their parameters, and integers of any length; anyURI is judged by its white space
+                                     alone, and QName and NOTATION by their spelling, without values */
 };
 
 /* Compiles the schema of `count` files, and puts it into `schema`. The first file is the main one. What `schema` held is freed. The datatypes are those

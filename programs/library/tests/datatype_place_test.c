@@ -73,7 +73,7 @@ static void refuses_other_sets(void) {
 /* A schema of one file that rncv_compile_with refuses for S12 has a place. */
 static void has_one_if_the_schema_is_refused(void) {
     static const char *const files[] = {
-        "element a { xsd:date }", "element a { attribute b { xsd:integer \"x\" } }", "start = element a { xsd:boolean { length = \"1\" } }"};
+        "element a { xsd:date \"2001-02-29\" }", "element a { attribute b { xsd:integer \"x\" } }", "start = element a { xsd:boolean { length = \"1\" } }"};
     for (size_t at = 0; at < sizeof files / sizeof *files; at++) {
         rncv_file file = file_of("s.rnc", files[at]);
         rncv_schema schema = RNCV_NOTHING;

@@ -72,8 +72,8 @@ class Places(WithServer):
                 ("# \U0001F600\relement \\x{61} { # \u00e9\r\n\tlist { text } }\r\n", "S20", (2, 8, 2, 12), "text is inside list"),
                 ("element a { attribute \u00e9 { text }, attribute \u00e9 { text } }", "S24", (0, 34, 0, 43),
                  "attribute \u00e9 is there twice in element a (the other is at 1:13)"),
-                ("element a { xsd:date }", "S12", (0, 12, 0, 20),
-                 "xsd:date is not served: rncv-profile --datatypes xml-schema s.rnc -o DIR writes a copy with xsd:token there, which accepts any text"),
+                ("element a { xsd:dates }", "S12", (0, 12, 0, 21), "xsd:dates is no datatype of XML Schema"),
+                ("element a { xsd:date { minInclusive = '2001-02-29' } }", "S12", (0, 23, 0, 35), "the minInclusive '2001-02-29' is no value of xsd:date"),
                 ("start = grammar { b = text }", "S14", (0, 8, 0, 15), "the grammar that begins here has no start")):
             reported = self.one(text)
             self.assertEqual((reported["code"], reported["severity"], span(reported)), (code, 1, place), text)
@@ -327,7 +327,7 @@ class Settings(WithServer):
 class Datatypes(WithServer):
     """The sets of datatypes: that of the command line, and that of the client."""
 
-    LARGER, OTHER = "element a { xsd:positiveInteger }", "element a { xsd:date }"
+    LARGER, OTHER = "element a { xsd:date }", "element a { xsd:dates }"
 
     def codes_of(self, words, options):
         """The codes for a schema of the larger set, and for one of neither, and the server's client."""

@@ -300,7 +300,8 @@ class Hints(unittest.TestCase):
         error, hint = self.refused({"m.rnc": b"include '\xc3\xa9.rnc'\nstart = a", "\u00e9.rnc": "a = element \u00e9 { b }".encode()})
         self.assertEqual(hint, ("b is not defined", "\u00e9.rnc", 1, 17))
         hint = self.refused({"m.rnc": b"include 'b.rnc'", "b.rnc": b"start = element b { xsd:date }"})[1]
-        told = "xsd:date is not served: rncv-profile m.rnc -o DIR writes a copy with xsd:token there, which accepts any text"
+        told = ("xsd:date is of the datatypes xml-schema, and not of those of the profile: rncv-profile m.rnc -o DIR writes a copy with xsd:token there, "
+                "which accepts any text")
         self.assertEqual(hint, (told, "b.rnc", 1, 21))
         self.assertEqual((error.clause, error.file, error.line), (15, None, None))
         self.assertEqual(str(error), "refused S15: what is referred to is defined (4.18): hint: b is not defined (\u00e9.rnc:1:17)")

@@ -1,8 +1,8 @@
 /* Hints: where a schema most likely breaks a clause, and by what. The proved library reports the clause; a hint is a guess outside the proof.
  *
  * The interface is plain, so that a library and Python can use it: arrays of files, and a structure of fixed size. It needs origins, xml_names, schema_tree,
- * schema_types, schema_grammars, schema_annotations, annotation_names, schema_tokens, paths and bytes, and nothing of the library. It keeps
- * nothing, and any thread may call it. */
+ * schema_types, schema_asked, schema_grammars, schema_annotations, annotation_names, schema_tokens, paths and bytes, and of the library rncv_datatype_place. It
+ * keeps nothing, and any thread may call it. */
 #ifndef SCHEMA_HINTS_H
 #define SCHEMA_HINTS_H
 

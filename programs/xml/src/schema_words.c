@@ -1,10 +1,12 @@
 /* Hints about names and datatypes: S11 and S12. For a datatype or a parameter that is not served the hint says what to do. */
+#include "rncv.h"
+#include "schema_asked.h"
 #include "schema_hinting.h"
 #include "schema_types.h"
 
 #include <string.h>
 
-enum { MOST_CLASSES = 300, LENGTH_DIGITS = 9, MOST_PATH = 200 };
+enum { MOST_CLASSES = 300, MOST_PATH = 200 };
 
 static const char xmlns_uri[] = "http://www.w3.org/2000/xmlns";
 static const char xsd_uri[] = "http://www.w3.org/2001/XMLSchema-datatypes";
@@ -70,17 +72,7 @@ void judge_names(struct hinting *hinting, struct spot spot) {
     }
 }
 
-/* Whether the text is 1 to 9 digits, which a length of the profile is. */
-static bool is_length(struct span text) {
-    for (size_t at = 0; at < text.length; at++) {
-        if (text.data[at] < '0' || text.data[at] > '9') {
-            return false;
-        }
-    }
-    return text.length > 0 && text.length <= LENGTH_DIGITS;
-}
-
-/* A datatype that is not served, and what rncv-profile writes in its place (programs/profile/profile_types.py has the same table). */
+/* A datatype that a set has not, and what rncv-profile writes in its place (programs/profile/profile_types.py has the same table). */
 struct nearest {
     const char *type;
     const char *with;
@@ -148,7 +140,7 @@ static void add_command(struct hinting *hinting) {
 /* Says that the smaller set has it not, and, if that is so, that the larger one has it. */
 static void add_unserved(struct hinting *hinting, bool is_in_larger) {
     static const char larger[] = " is of the datatypes xml-schema, and not of those of the profile: ";
-    bytes_add_text(&hinting->text, hinting->is_of_profile && is_in_larger ? larger : " is not served: ");
+    bytes_add_text(&hinting->text, is_in_larger ? larger : " is not served: ");
 }
 
 /* Says that a datatype is not served, and what a copy has in its place. */
@@ -164,19 +156,9 @@ static void hint_unserved(struct hinting *hinting, uint32_t node, const struct n
     }
 }
 
-/* What rncv-profile makes of a parameter that XML Schema has and the set has not. */
-enum copied { COPIED_NOT, COPIED_LEFT_OUT, COPIED_SAME };
-
-static enum copied copied_as(const struct hinting *hinting, const struct type *type, struct span name) {
-    bool is_same = type->kind == TYPE_INTEGER ? span_is(name, "fractionDigits") || (hinting->is_of_profile && type_takes(type, name))
-                                              : type->kind == TYPE_TEXT && hinting->is_of_profile && span_is(name, "length");
-    return span_is(name, "pattern") ? COPIED_LEFT_OUT : is_same ? COPIED_SAME : COPIED_NOT;
-}
-
-/* Says that the datatype has not the parameter, and what a copy has in its place. */
+/* Says that the datatype has not the parameter. If the larger set has it, and this is the smaller one, what a copy has in its place. */
 static void hint_facet(struct hinting *hinting, struct span written, const struct type *type, struct span name) {
-    enum copied copied = copied_as(hinting, type, name);
-    if (copied == COPIED_NOT) {
+    if (type == NULL || !hinting->is_of_profile || !type_takes(type, name)) {
         add_part(hinting, written);
         bytes_add_text(&hinting->text, " takes no parameter ");
         add_part(hinting, name);
@@ -186,10 +168,10 @@ static void hint_facet(struct hinting *hinting, struct span written, const struc
     add_part(hinting, name);
     bytes_add_text(&hinting->text, " of ");
     add_part(hinting, written);
-    add_unserved(hinting, type_takes(type, name));
+    add_unserved(hinting, true);
     add_command(hinting);
-    bytes_add_text(&hinting->text, copied == COPIED_LEFT_OUT ? " without it, which also accepts what the pattern does not match"
-                                                             : " with others there, which accepts the same");
+    bytes_add_text(&hinting->text, span_is(name, "pattern") ? " without it, which also accepts what the pattern does not match"
+                                                            : " with others there, which accepts the same");
 }
 
 /* Whether the datatype has the parameter in the set. `type` is NULL for one that takes none. */
@@ -202,57 +184,109 @@ static bool takes(const struct hinting *hinting, const struct type *type, struct
     return is_taken;
 }
 
+static uint32_t set_of(const struct hinting *hinting) {
+    return hinting->is_of_profile ? RNCV_DATATYPES_PROFILE : RNCV_DATATYPES_XML_SCHEMA;
+}
+
+/* Adds a parameter to a question. */
+static void ask_about(struct hinting *hinting, struct bytes *question, uint32_t param) {
+    const struct node *here = hint_node(hinting, param);
+    asked_add_param(question, here->text, here->other);
+}
+
+/* As many steps as a question of so many bytes takes the time of. */
+static uint64_t asking_steps(size_t length) {
+    return 24 + length / 16;
+}
+
+/* Ends a question. If there were too many, everything is taken. */
+static bool is_taken(struct hinting *hinting, struct bytes *question) {
+    bool is_asked = tree_step(&hinting->grammars.tree, asking_steps(question->length));
+    return asked_is_taken(question, set_of(hinting)) || !is_asked;
+}
+
+/* Whether the set has the datatype with all of its parameters. */
+static bool are_taken(struct hinting *hinting, const struct type *type, uint32_t first) {
+    struct bytes question = NO_BYTES;
+    bool are_known = true;
+    asked_begin(&question, type->name);
+    for (uint32_t param = first; param != 0 && are_known; param = hint_node(hinting, param)->next) {
+        are_known = takes(hinting, type, hint_node(hinting, param)->text);
+        ask_about(hinting, &question, param);
+    }
+    if (!are_known) {
+        bytes_free(&question);
+    }
+    return are_known && is_taken(hinting, &question);
+}
+
 /* Says which texts the parameter has. */
 static void add_wanted(struct hinting *hinting, struct span written, const struct type *type, struct span name) {
-    bool is_bound = type->kind == TYPE_INTEGER && !span_is(name, "totalDigits");
     if (span_is(name, "pattern")) {
         bytes_add_text(&hinting->text, "' is no regular expression of XML Schema, or its size, with its counts written out, is above 4,096");
-    } else if (span_is(name, "fractionDigits")) {
+    } else if (type->kind == TYPE_INTEGER && span_is(name, "fractionDigits")) {
         bytes_add_text(&hinting->text, "' is not 0, which it is for integers");
     } else if (hinting->is_of_profile) {
-        bytes_add_text(&hinting->text, is_bound ? "' is no integer of at most 38 digits" : "' is not 1 to 9 digits");
-    } else if (is_bound) {
+        bytes_add_text(&hinting->text, is_bound(name) ? "' is no integer of at most 38 digits" : "' is not 1 to 9 digits");
+    } else if (is_bound(name)) {
         bytes_add_text(&hinting->text, "' is no value of ");
         add_part(hinting, written);
     } else {
-        bytes_add_text(&hinting->text, type->kind == TYPE_INTEGER ? "' is no number from 1 on" : "' is no number from 0 on");
+        bytes_add_text(&hinting->text, span_is(name, "totalDigits") ? "' is no number from 1 on" : "' is no number from 0 on");
     }
 }
 
-/* Says why a parameter does not fit its type, if it does not. */
+/* Adds a parameter and its text. */
+static void add_parameter(struct hinting *hinting, const struct node *param) {
+    bytes_add_text(&hinting->text, "the ");
+    add_part(hinting, param->text);
+    bytes_add_text(&hinting->text, " '");
+    add_part(hinting, param->other);
+}
+
+/* Says why a parameter by itself does not fit its type, if it does not. */
 static void judge_param(struct hinting *hinting, struct span written, const struct type *type, uint32_t param) {
     const struct node *here = hint_node(hinting, param);
     if (!takes(hinting, type, here->text)) {
-        if (type != NULL && hint_begins(hinting, param)) {
+        if (hint_begins(hinting, param)) {
             hint_facet(hinting, written, type, here->text);
-        } else if (hint_begins(hinting, param)) {
-            add_part(hinting, written);
-            bytes_add_text(&hinting->text, " takes no parameter ");
-            add_part(hinting, here->text);
         }
         return;
     }
-    bool is_good = !hinting->is_of_profile            ? type_takes_text(type, here->text, here->other)
-                   : type->kind == TYPE_INTEGER ? type_allows(type, true, here->other)
-                                                : is_length(here->other);
-    if (!is_good && hint_begins(hinting, param)) {
-        bytes_add_text(&hinting->text, "the ");
-        add_part(hinting, here->text);
-        bytes_add_text(&hinting->text, " '");
-        add_part(hinting, here->other);
+    struct bytes question = NO_BYTES;
+    asked_begin(&question, type->name);
+    ask_about(hinting, &question, param);
+    if (!is_taken(hinting, &question) && hint_begins(hinting, param)) {
+        add_parameter(hinting, here);
         add_wanted(hinting, written, type, here->text);
     }
 }
 
+/* Says what is wrong with two parameters, each of which is good. `one` is named first. */
+static void hint_pair(struct hinting *hinting, const struct node *one, const struct node *other, bool are_exclusive) {
+    if (span_is(one->text, "fractionDigits")) {
+        add_parameter(hinting, one);
+        bytes_add_text(&hinting->text, "' is above ");
+        add_parameter(hinting, other);
+        bytes_add_text(&hinting->text, "'");
+        return;
+    }
+    bytes_add_text(&hinting->text, "the parameters ");
+    add_part(hinting, one->text);
+    bytes_add_text(&hinting->text, " and ");
+    add_part(hinting, other->text);
+    bytes_add_text(&hinting->text, are_exclusive ? " exclude each other" : " leave no value between them");
+}
+
 /* Says that two parameters of the larger set exclude each other, or that the lower one is above the upper one, if that is so. */
-static void judge_pair(struct hinting *hinting, uint32_t before, uint32_t param) {
+static void judge_pair(struct hinting *hinting, const struct type *type, uint32_t before, uint32_t param) {
     static const struct {
         const char *one;
         const char *other;
-        int most; /* of the order of the first and the second; -2: they exclude each other */
-    } pairs[] = {{"length", "minLength", -2}, {"length", "maxLength", -2}, {"minLength", "maxLength", 0}, {"minInclusive", "minExclusive", -2},
-                 {"maxInclusive", "maxExclusive", -2}, {"minInclusive", "maxInclusive", 0}, {"minInclusive", "maxExclusive", -1},
-                 {"minExclusive", "maxInclusive", -1}, {"minExclusive", "maxExclusive", 0}};
+        bool are_exclusive;
+    } pairs[] = {{"length", "minLength", true}, {"length", "maxLength", true}, {"minLength", "maxLength", false}, {"minInclusive", "minExclusive", true},
+                 {"maxInclusive", "maxExclusive", true}, {"minInclusive", "maxInclusive", false}, {"minInclusive", "maxExclusive", false},
+                 {"minExclusive", "maxInclusive", false}, {"minExclusive", "maxExclusive", false}, {"fractionDigits", "totalDigits", false}};
     const struct node *first = hint_node(hinting, before);
     const struct node *second = hint_node(hinting, param);
     for (size_t at = 0; at < sizeof pairs / sizeof *pairs; at++) {
@@ -262,20 +296,23 @@ static void judge_pair(struct hinting *hinting, uint32_t before, uint32_t param)
         if (!span_is(one->text, pairs[at].one) || !span_is(other->text, pairs[at].other)) {
             continue;
         }
-        int order = numbers_compare(one->other, other->other);
-        bool is_good = pairs[at].most != -2 && (order < 0 ? -1 : order > 0) <= pairs[at].most;
-        if (!is_good && hint_begins(hinting, param)) {
-            bytes_add_text(&hinting->text, "the parameters ");
-            add_part(hinting, one->text);
-            bytes_add_text(&hinting->text, " and ");
-            add_part(hinting, other->text);
-            bytes_add_text(&hinting->text, pairs[at].most == -2 ? " exclude each other" : " leave no value between them");
+        struct bytes question = NO_BYTES;
+        asked_begin(&question, type->name);
+        ask_about(hinting, &question, before);
+        ask_about(hinting, &question, param);
+        if (!is_taken(hinting, &question) && hint_begins(hinting, param)) {
+            hint_pair(hinting, one, other, pairs[at].are_exclusive);
         }
+        return;
     }
 }
 
-/* Looks at the parameters. Each but `pattern` may be there once; there are ten. */
+/* Looks at the parameters, if the set has not the datatype with them. Each but `pattern` may be there once; there are ten. `type` is NULL for a datatype that
+ * takes none. */
 static void judge_params(struct hinting *hinting, struct span written, const struct type *type, uint32_t first) {
+    if (first == 0 || (type != NULL && are_taken(hinting, type, first))) {
+        return;
+    }
     for (uint32_t param = first; param != 0 && hinting->node == 0 && tree_step(&hinting->grammars.tree, 1); param = hint_node(hinting, param)->next) {
         struct span name = hint_node(hinting, param)->text;
         judge_param(hinting, written, type, param);
@@ -288,7 +325,7 @@ static void judge_params(struct hinting *hinting, struct span written, const str
                 add_part(hinting, name);
                 bytes_add_text(&hinting->text, " is there twice");
             } else if (!hinting->is_of_profile) {
-                judge_pair(hinting, before, param);
+                judge_pair(hinting, type, before, param);
             }
         }
     }
@@ -325,7 +362,7 @@ static void hint_type(struct hinting *hinting, uint32_t node, struct span librar
     }
     add_part(hinting, hint_node(hinting, node)->text);
     if (nearest != NULL) {
-        hint_unserved(hinting, node, nearest, is_xsd && type_named(type) != NULL);
+        hint_unserved(hinting, node, nearest, is_xsd);
     } else if (is_xsd) {
         bytes_add_text(&hinting->text, " is no datatype of XML Schema");
     } else if (library.length == 0) {
@@ -346,16 +383,29 @@ static const struct type *known_type(const struct hinting *hinting, struct span 
     return type != NULL && is_library && (!hinting->is_of_profile || type_is_of_profile(type)) ? type : NULL;
 }
 
+/* Whether each text is a value of the datatype. The library need not be asked. */
+static bool is_of_any_text(const struct type *type) {
+    static const char *const names[] = {"string", "normalizedString", "token", "anyURI"};
+    bool is_it = false;
+    for (size_t at = 0; at < sizeof names / sizeof *names; at++) {
+        is_it |= strcmp(type->name, names[at]) == 0;
+    }
+    return is_it;
+}
+
 /* Looks at a value of the type. */
 static void judge_value(struct hinting *hinting, uint32_t at, const struct type *type) {
     const struct node *node = hint_node(hinting, at);
-    if (type_allows(type, hinting->is_of_profile, node->other) || !hint_begins(hinting, at)) {
+    if (type->kind == TYPE_CONTEXT) {
+        if (hint_begins(hinting, at)) {
+            bytes_add_text(&hinting->text, "a value of ");
+            add_part(hinting, node->text);
+            bytes_add_text(&hinting->text, " is not served, since it depends on the prefixes of the document");
+        }
         return;
     }
-    if (type->kind == TYPE_CONTEXT) {
-        bytes_add_text(&hinting->text, "a value of ");
-        add_part(hinting, node->text);
-        bytes_add_text(&hinting->text, " is not served, since it depends on the prefixes of the document");
+    if (is_of_any_text(type) || !tree_step(&hinting->grammars.tree, asking_steps(node->other.length)) ||
+        asked_allows(type->name, node->other, set_of(hinting)) || !hint_begins(hinting, at)) {
         return;
     }
     add_part(hinting, node->text);

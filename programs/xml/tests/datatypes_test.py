@@ -89,13 +89,59 @@ class Sets(InFolder):
 
     def test_the_command_of_a_hint(self):
         """What the hint says makes a copy that is served."""
-        self.write("s.rnc", 'element a { attribute b { xsd:NCName { pattern = "[ab]+" length = "2" } }, attribute c { xsd:anyURI }, xsd:decimal }')
-        self.write("good.xml", '<a b="ab" c="/">1.0</a>')
-        command = self.judge("s.rnc")[0].split(" is not served: ")[1].split(" writes ")[0].replace("DIR", "copy").split(" ")
+        self.write("s.rnc", 'datatypes d = "urn:d" element a { attribute b { xsd:NCName { pattern = "[ab]+" length = "2" } }, attribute c { xsd:anyURI }, d:t }')
+        self.write("good.xml", '<a b="ab" c="/">1 m</a>')
+        command = self.judge("s.rnc")[0].split(" which is not served: ")[1].split(" writes ")[0].replace("DIR", "copy").split(" ")
         self.assertEqual(command[0], "rncv-profile")
         self.run_in(HERE.parent / "profile/rncv-profile", *command[1:])
         self.assertEqual(self.judge("--all", "copy/s.rnc", "good.xml"), ("good.xml: valid\n", 0))
         self.assertIn("xsd:anyURI", (self.folder / "copy/s.rnc").read_text())
+
+
+# Types whose values are no texts, each with parameters: a text that it allows, and some that it does not.
+TYPED = (
+    ('xsd:decimal { totalDigits = "3" fractionDigits = "1" maxExclusive = "50" }', " +049.90 ", "49.95", "50", "1e1"),
+    ('xsd:float { minInclusive = "0" }', "1e400", "-1E-40", "NaN", "+INF"),
+    ('xsd:double { maxExclusive = "INF" pattern = ".*" }', "1E308", "1E309", "INF", "NaN"),
+    ('xsd:duration { minInclusive = "PT0S" maxExclusive = "P1M" }', "P27DT23H59.5S", "P28D", "-PT1S", "P"),
+    ('xsd:dateTime { minInclusive = "2000-01-01T00:00:00Z" }', "1999-12-31T23:00:00-01:00", "2000-01-01T00:00:00+00:01", "2000-01-01T00:00:00", "2000-01-01"),
+    ('xsd:time { maxInclusive = "12:00:00" }', "12:00:00.00", "12:00:00.01", "11:00:00Z", "1:00:00"),
+    ('xsd:date { minExclusive = "2000-02-28" }', "2000-02-29", "2000-02-28", "2001-02-29", "2001-2-28"),
+    ("xsd:gYearMonth", "-0001-12Z", "2000-13", "2000", "00000-01"),
+    ('xsd:gYear { maxInclusive = "1999" }', "-12000", "2000", "1999Z", "0000"),
+    ("xsd:gMonthDay", "--02-29", "--02-30", "02-29", "--2-29"),
+    ('xsd:gDay { minInclusive = "---02" }', "---31", "---01", "---32", "31"),
+    ("xsd:gMonth", "--12+14:00", "--13", "--12--", "--12+14:01"),
+    ('xsd:hexBinary { length = "2" }', " 0aFf ", "0aF", "0aFf00", "0aFg"),
+    ('xsd:base64Binary { maxLength = "1" }', " T Q = = ", "TWE=", "TR==", "TQ"),
+)
+
+
+class Typed(InFolder):
+    """Datatypes whose values are numbers, moments, durations or octets."""
+
+    def test_what_they_allow(self):
+        for pattern, good, *bad in TYPED:
+            with self.subTest(pattern):
+                self.write("s.rnc", f"element a {{ {pattern} }}")
+                for text in (good, *bad):
+                    self.write("a.xml", f"<a>{text}</a>")
+                    self.assertEqual(self.run_in(RNCV_XML, "s.rnc", "a.xml")[2], text != good, text)
+                out, status = self.judge("--datatypes", "profile", "s.rnc", "a.xml")
+                self.assertIn(f": hint: {pattern.split(' ')[0]} is of the datatypes xml-schema, and not of those of the profile: ", out)
+                self.assertEqual(status, 3)
+
+    def test_values(self):
+        """A value is compared as one of its datatype, and a datatype in the XML syntax is the same."""
+        for name, value, same, other in (("decimal", "1.0", "+01", "1.1"), ("double", "1", "0.1E1", "2"), ("dateTime", "2000-01-01T00:00:00Z",
+                                         "2000-01-01T01:00:00+01:00", "2000-01-01T00:00:00"), ("hexBinary", "0a", "0A", "0B"), ("duration", "P1Y", "P1Y0M", "P12M")):
+            with self.subTest(name):
+                self.write("s.rnc", f'element a {{ xsd:{name} "{value}" }}')
+                self.write("s.rng", '<element name="a" xmlns="http://relaxng.org/ns/structure/1.0" datatypeLibrary="http://www.w3.org/2001/XMLSchema-datatypes">'
+                           f'<value type="{name}">{value}</value></element>')
+                for text in (value, same, other):
+                    self.write("a.xml", f"<a>{text}</a>")
+                    self.assertEqual([self.run_in(RNCV_XML, schema, "a.xml")[2] for schema in ("s.rnc", "s.rng")], [int(text == other)] * 2, text)
 
 
 class Spelled(InFolder):

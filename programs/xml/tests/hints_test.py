@@ -86,17 +86,47 @@ SCHEMAS = [
         "s.rnc": "start = element doc { block }\nblock = paragraph | quote\nparagraph = element p { text }\nquote = (block, note)\n"
                  "note = element note { text }\n"},
      "s.rnc:4:10", "S16", "block refers to itself outside of elements: block -> quote -> block"),
-    ("a datatype of XML Schema that is not served", {
-        "s.rnc": "start = element event {\n  attribute on { xsd:date },\n  text\n}\n"},
-     "s.rnc:2:18", "S12", f"xsd:date is not served: {COPY} writes a copy with xsd:token there, which accepts any text"),
     ("a datatype of IDs, of another library", {
         "s.rnc": 'datatypes d = "http://relaxng.org/ns/compatibility/datatypes/1.0"\nstart = element n { attribute id { d:ID } }\n'},
      "s.rnc:2:36", "S12", f"d:ID is not served: {COPY} writes a copy with xsd:ID there, which accepts the same"),
-    ("a value of a datatype that is not served", {"s.rnc": 'start = element n { xsd:decimal "1.0" }\n'}, "s.rnc:1:21", "S12",
-     f"xsd:decimal is not served: {COPY} writes a copy with xsd:token there, which compares the value as that does"),
     ("a datatype in a file that is included", {
-        "s.rnc": 'include "parts.rnc"\n', "parts.rnc": "start = element n { xsd:duration }\n"},
-     "parts.rnc:1:21", "S12", f"xsd:duration is not served: {COPY} writes a copy with xsd:token there, which accepts any text"),
+        "s.rnc": 'include "parts.rnc"\n', "parts.rnc": 'datatypes q = "urn:q"\nstart = element n { xsd:duration | q:span }\n'},
+     "parts.rnc:2:36", "S12", f"q:span is of the library urn:q, which is not served: {COPY} writes a copy with xsd:string there, which accepts any text"),
+    ("a date that is none, in a bound", {
+        "s.rnc": 'start = element event {\n  attribute on { xsd:date { minInclusive = "2000-02-29" maxExclusive = "2001-02-29" } },\n  text\n}\n'},
+     "s.rnc:2:57", "S12", "the maxExclusive '2001-02-29' is no value of xsd:date"),
+    ("a date that is none, as a value", {"s.rnc": 'start = element n { xsd:date "2000-02-29" | xsd:date "2001-02-29" }\n'}, "s.rnc:1:45", "S12",
+     "xsd:date does not allow the value '2001-02-29'"),
+    ("a value of a decimal number", {"s.rnc": 'start = element n { xsd:decimal "1.0" | xsd:decimal "1e0" }\n'}, "s.rnc:1:41", "S12",
+     "xsd:decimal does not allow the value '1e0'"),
+    ("a length of a duration", {"s.rnc": 'start = element n { xsd:duration { length = "1" } }\n'}, "s.rnc:1:36", "S12",
+     "xsd:duration takes no parameter length"),
+    ("digits of a number with a floating point", {"s.rnc": 'start = element n { xsd:double { maxInclusive = "INF" totalDigits = "1" } }\n'}, "s.rnc:1:55", "S12",
+     "xsd:double takes no parameter totalDigits"),
+    ("a bound of octets", {"s.rnc": 'start = element n { xsd:hexBinary { maxInclusive = "FF" } }\n'}, "s.rnc:1:37", "S12",
+     "xsd:hexBinary takes no parameter maxInclusive"),
+    ("a length of octets that is no number", {"s.rnc": 'start = element n { xsd:base64Binary { minLength = " 4 " maxLength = "4.0" } }\n'}, "s.rnc:1:58", "S12",
+     "the maxLength '4.0' is no number from 0 on"),
+    ("digits of a decimal number", {"s.rnc": 'start = element n { xsd:decimal { totalDigits = "2" fractionDigits = "3" } }\n'}, "s.rnc:1:53", "S12",
+     "the fractionDigits '3' is above the totalDigits '2'"),
+    ("digits behind the point, below 0", {"s.rnc": 'start = element n { xsd:decimal { fractionDigits = "-1" } }\n'}, "s.rnc:1:35", "S12",
+     "the fractionDigits '-1' is no number from 0 on"),
+    ("no digits at all", {"s.rnc": 'start = element n { xsd:decimal { fractionDigits = "0" totalDigits = "0" } }\n'}, "s.rnc:1:56", "S12",
+     "the totalDigits '0' is no number from 1 on"),
+    ("a bound of a float twice", {"s.rnc": 'start = element n { xsd:float { maxInclusive = "1" maxInclusive = "1" } }\n'}, "s.rnc:1:52", "S12",
+     "the parameter maxInclusive is there twice"),
+    ("two lower bounds of a month", {"s.rnc": 'start = element n { xsd:gMonth { minExclusive = "--01" pattern = "-.*" minInclusive = "--02" } }\n'}, "s.rnc:1:72",
+     "S12", "the parameters minInclusive and minExclusive exclude each other"),
+    ("times in the wrong order", {"s.rnc": 'start = element n { xsd:time { maxInclusive = "12:00:00Z" minInclusive = "12:00:00-00:01" } }\n'}, "s.rnc:1:59",
+     "S12", "the parameters minInclusive and maxInclusive leave no value between them"),
+    ("times that are not comparable", {"s.rnc": 'start = element n { xsd:dateTime { minInclusive = "2000-01-01T12:00:00" maxInclusive = "2000-01-02T00:00:00Z" } }\n'},
+     "s.rnc:1:73", "S12", "the parameters minInclusive and maxInclusive leave no value between them"),
+    ("durations that are not comparable", {"s.rnc": 'start = element n { xsd:duration { minExclusive = "P30D" maxExclusive = "P1M" } }\n'}, "s.rnc:1:58", "S12",
+     "the parameters minExclusive and maxExclusive leave no value between them"),
+    ("a bound that is no number", {"s.rnc": 'start = element n { xsd:float { minExclusive = "NaN" maxInclusive = "NaN" } }\n'}, "s.rnc:1:54", "S12",
+     "the parameters minExclusive and maxInclusive leave no value between them"),
+    ("a pattern of a year", {"s.rnc": 'start = element n { xsd:gYear { minInclusive = "2000" pattern = "20[0-9" } }\n'}, "s.rnc:1:55", "S12",
+     "the pattern '20[0-9' is no regular expression of XML Schema, or its size, with its counts written out, is above 4,096"),
     ("a datatype that is none", {"s.rnc": "start = element n { xsd:dateTimes }\n"}, "s.rnc:1:21", "S12", "xsd:dateTimes is no datatype of XML Schema"),
     ("a datatype of a library that is not served", {"s.rnc": 'datatypes q = "urn:q"\nstart = element n { q:speed { unit = "m" } }\n'}, "s.rnc:2:21", "S12",
      f"q:speed is of the library urn:q, which is not served: {COPY} writes a copy with xsd:string there, which accepts any text"),
@@ -122,9 +152,9 @@ SCHEMAS = [
      "xsd:language does not allow the value 'de-'"),
     ("a schema in the XML syntax", {
         "s.rnc": '<element name="n" xmlns="http://relaxng.org/ns/structure/1.0" datatypeLibrary="http://www.w3.org/2001/XMLSchema-datatypes">\n'
-                 '  <data type="date"/>\n</element>\n'},
-     "s.rnc:2:3", "S12", "xsd:date is not served: rng2rnc s.rnc -o RNC writes it in the compact syntax, of which rncv-profile --datatypes xml-schema -o DIR "
-     "writes a copy with xsd:token there, which accepts any text"),
+                 '  <data type="date"/><data type="ID" datatypeLibrary="http://relaxng.org/ns/compatibility/datatypes/1.0"/>\n</element>\n'},
+     "s.rnc:2:22", "S12", "lib1:ID is not served: rng2rnc s.rnc -o RNC writes it in the compact syntax, of which rncv-profile --datatypes xml-schema -o DIR "
+     "writes a copy with xsd:ID there, which accepts the same"),
     ("a pattern that is no expression", {
         "s.rnc": 'zip = xsd:token {\n  pattern = "[0-9]+"\n  pattern = "[0-9]{5"\n}\nstart = element zip { zip }\n'},
      "s.rnc:3:3", "S12", "the pattern '[0-9]{5' is no regular expression of XML Schema, or its size, with its counts written out, is above 4,096"),
@@ -178,7 +208,12 @@ SCHEMAS = [
 LARGER = "is of the datatypes xml-schema, and not of those of the profile"
 # Patterns that break S12 with the six datatypes of the profile, where in the pattern, and the hint.
 OF_THE_PROFILE = [
-    ("xsd:date", 1, "xsd:date is not served: rncv-profile s.rnc -o DIR writes a copy with xsd:token there, which accepts any text"),
+    ("xsd:date", 1, f"xsd:date {LARGER}: rncv-profile s.rnc -o DIR writes a copy with xsd:token there, which accepts any text"),
+    ('xsd:decimal "1.0"', 1, f"xsd:decimal {LARGER}: rncv-profile s.rnc -o DIR writes a copy with xsd:token there, which compares the value as that does"),
+    ('xsd:hexBinary { length = "4" }', 1, f"xsd:hexBinary {LARGER}: rncv-profile s.rnc -o DIR writes a copy with xsd:token there, which accepts any text"),
+    ("xsd:dates", 1, "xsd:dates is no datatype of XML Schema"),
+    ('xsd:token { minInclusive = "1" }', 13, "xsd:token takes no parameter minInclusive"),
+    ('xsd:integer { maxInclusive = "1" maxInclusive = "1" }', 34, "the parameter maxInclusive is there twice"),
     ("xsd:positiveInteger", 1, f"xsd:positiveInteger {LARGER}: rncv-profile s.rnc -o DIR writes a copy with xsd:integer there, which accepts the same but for "
      "numbers of more than 38 digits"),
     ("xsd:anyURI", 1, f"xsd:anyURI {LARGER}: rncv-profile s.rnc -o DIR writes a copy with xsd:token there, which accepts any text"),
@@ -213,6 +248,12 @@ GOOD = [
     "start &= attribute a { text }+ start &= notAllowed",
     "start &= element a { b } start &= empty b = text & notAllowed b &= text, text",
     'include "b.rnc" { x = element x { empty } }',
+    'element a { xsd:decimal { minInclusive = "-.5" maxExclusive = "+1." totalDigits = "2" fractionDigits = "2" pattern = ".+" } }',
+    'element a { xsd:float { minExclusive = "NaN" maxExclusive = "NaN" } | xsd:double { minInclusive = "-1E400" maxInclusive = "INF" } }',
+    'element a { xsd:duration { minInclusive = "P12M" maxInclusive = "P12M" } | xsd:duration { minExclusive = "-P1Y" maxInclusive = "PT0.5S" } }',
+    'element a { xsd:date { minInclusive = "-0001-12-31" maxExclusive = "12000-02-29" } | xsd:dateTime "2000-01-01T24:00:00" }',
+    'element a { xsd:gYearMonth "2000-02" | xsd:gYear "-0004" | xsd:gMonthDay "--02-29Z" | xsd:gDay "---31" | xsd:gMonth "--12+14:00" | xsd:time "00:00:00" }',
+    'element a { xsd:hexBinary { length = "2" } | xsd:base64Binary { minLength = "0" maxLength = "0" } | xsd:hexBinary "0a" | xsd:base64Binary "TQ = =" }',
 ]
 INCLUDED = "start = x\nx = parent y\nz |= text\n"
 
@@ -229,16 +270,17 @@ def deep(inside):
 DEEP = {"s.rnc": "start = element a { x }\n" + deep('include "b.rnc"'), "b.rnc": deep('include "c.rnc"'), "c.rnc": deep('include "d.rnc"')}
 # What the innermost file of these has, and where the library finds the datatype. There are no words about it.
 WITHOUT_WORDS = [
-    ("a datatype that is not served", {"d.rnc": deep("x = text | xsd:date")}, "d.rnc:1:672"),
+    ("a datatype that is none", {"d.rnc": deep("x = text | xsd:dates")}, "d.rnc:1:672"),
+    ("a bound of a date", {"d.rnc": deep('x = xsd:date | xsd:date { minInclusive = "2001-02-29" }')}, "d.rnc:1:676"),
     ("a parameter: the place is that of the datatype", {"d.rnc": deep('x = xsd:byte { maxInclusive = "128" }')}, "d.rnc:1:665"),
     ("a value", {"d.rnc": deep('\r\nx = "a" | xsd:integer "\u00e9"')}, "d.rnc:2:11"),
     ("a file that is mentioned last, and the others before it", {
-        "d.rnc": deep('x = e | f include "e.rnc" f = external "f.rnc"'), "e.rnc": "e = xsd:byte\nunused = \\x{78}sd:date", "f.rnc": "xsd:float"}, "e.rnc:2:10"),
+        "d.rnc": deep('x = e | f include "e.rnc" f = external "f.rnc"'), "e.rnc": "e = xsd:byte\nunused = \\x{78}sd:dates", "f.rnc": "xsd:floats"}, "e.rnc:2:10"),
     ("a column after an annotation that is not handed in", {
-        "d.rnc": 'namespace n = "u"\n' + deep('n:\u00e9 [ "\u00e9" ] x = xsd:date')}, "d.rnc:2:677"),
+        "d.rnc": 'namespace n = "u"\n' + deep('n:\u00e9 [ "\u00e9" ] x = xsd:dates')}, "d.rnc:2:677"),
     ("a file in the XML syntax", {
         "d.rnc": deep('include "e.rng"'), "e.rng": '<grammar xmlns="http://relaxng.org/ns/structure/1.0" datatypeLibrary='
-        '"http://www.w3.org/2001/XMLSchema-datatypes">\n<define name="x">\n  <data type="date"/></define></grammar>'}, "e.rng:3:3"),
+        '"http://www.w3.org/2001/XMLSchema-datatypes">\n<define name="x">\n  <data type="dates"/></define></grammar>'}, "e.rng:3:3"),
 ]
 
 

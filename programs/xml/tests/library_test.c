@@ -373,6 +373,9 @@ static void sets(rncv_xml_judge *judge) {
     CHECK(rncv_xml_files_explain_with(&files, &refused, RNCV_DATATYPES_XML_SCHEMA, &fault) == RNCV_DONE && fault.line == 0);
     CHECK(rncv_xml_files_explain_with(&files, &refused, 2, &fault) == RNCV_MISUSE && rncv_xml_hint_find_with(&file, NULL, 1, 12, 2, &hint) == RNCV_MISUSE);
     CHECK(rncv_xml_judge_open_with("larger.rnc", NULL, 0, 2, &own, &fault) == RNCV_MISUSE && says(&own, good, RNCV_XML_VALID, ""));
+    write_file("larger.rnc", "element a { xsd:decimal { totalDigits = '2' } | xsd:decimal { totalDigits = '2' fractionDigits = '3' } }");
+    CHECK(rncv_xml_judge_open_with("larger.rnc", NULL, 0, RNCV_DATATYPES_XML_SCHEMA, &own, &fault) == RNCV_REFUSED && fault.line == 1 && fault.column == 81);
+    CHECK(strstr(fault.message, ": hint: the fractionDigits '3' is above the totalDigits '2'") != NULL && says(&own, good, RNCV_XML_VALID, ""));
     CHECK(rncv_xml_judge_new_with(&schema, &file, 1, UINT32_MAX, &own) == RNCV_MISUSE && says(&own, good, RNCV_XML_VALID, ""));
     rncv_xml_judge_free(&own);
     rncv_xml_judge_free(&other);
