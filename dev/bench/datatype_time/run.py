@@ -7,6 +7,9 @@ It judges N records (default: 3,000) with two values of a number and two of a na
 FOLDER (default: build/library), and counts instructions by callgrind. They are the whole of a run: the schema, the reader and the matcher. A row has the
 datatype, and the instructions by it with the set of XML Schema, as a multiple of those with the six types, where the numbers are `xsd:integer` and the names
 `xsd:NCName`. The documents of a row are the same. The first row is that of the six types themselves with the larger set.
+
+The second table is of the primitive types whose values are no texts: what a text costs more by the datatype than by `xsd:string`, in instructions a byte of it,
+of records with one text each. At most 40 are wanted of a date or a decimal.
 """
 import argparse
 import os
@@ -56,6 +59,33 @@ def schema(number_type, name_type):
             f"element quantity {{ xsd:{number_type} }}, element code {{ xsd:{name_type} }}, element note {{ text }} }}* }}")
 
 
+# A text of each primitive type, by the number of a record.
+PRIMITIVES = {
+    "decimal": lambda row: f"{row * 7919 % 1_000_000}.{row % 1000:03}",
+    "float": lambda row: f"{row * 7919 % 1_000_000}.{row % 1000:03}e-{row % 20}",
+    "double": lambda row: f"{row * 7919 % 1_000_000}.{row % 1000:03}e-{row % 20}",
+    "duration": lambda row: f"P{row % 90}Y{row % 12}M{row % 28}DT{row % 24}H{row % 60}M{row % 60}.5S",
+    "dateTime": lambda row: f"{1900 + row % 200}-{row % 12 + 1:02}-{row % 28 + 1:02}T{row % 24:02}:{row % 60:02}:{row % 60:02}+01:00",
+    "date": lambda row: f"{1900 + row % 200}-{row % 12 + 1:02}-{row % 28 + 1:02}",
+    "time": lambda row: f"{row % 24:02}:{row % 60:02}:{row % 60:02}",
+    "gYearMonth": lambda row: f"{1900 + row % 200}-{row % 12 + 1:02}",
+    "gYear": lambda row: f"{1900 + row % 200}",
+    "gMonthDay": lambda row: f"--{row % 12 + 1:02}-{row % 28 + 1:02}",
+    "gDay": lambda row: f"---{row % 28 + 1:02}",
+    "gMonth": lambda row: f"--{row % 12 + 1:02}",
+    "hexBinary": lambda row: f"{row * 7919 % 0xFFFFFFFF:08X}" * 3,
+    "base64Binary": lambda row: f"{row * 7919 % 0xFFFFFFFF:08X}" * 3,
+}
+
+
+def texts_document(text_of, count):
+    return element("doc", "".join(element("record", f"-{text_of(row)}\n") for row in range(count)))
+
+
+def texts_schema(content):
+    return f"element doc {{ element record {{ {content} }}* }}"
+
+
 class Judge:
     """The program that judges, and the files that it is given."""
 
@@ -101,6 +131,13 @@ def main():
             base = judge.instructions(PROFILE, schema("integer", "NCName"), text)
             found = judge.instructions(XML_SCHEMA, schema(number_type, name_type), text)
             table.row(title, f"{found:,}", f"{found / base:.3f}")
+        print()
+        table = Table("Datatype", "Bytes of a text", "Instructions a byte")
+        for datatype, text_of in PRIMITIVES.items():
+            text = texts_document(text_of, given.records)
+            cost = (judge.instructions(XML_SCHEMA, texts_schema(f"xsd:{datatype}"), text) - judge.instructions(XML_SCHEMA, texts_schema("xsd:string"), text))
+            length = sum(len(text_of(row)) for row in range(given.records))
+            table.row(f"`{datatype}`", f"{length / given.records:.1f}", f"{cost / length:.1f}")
     return 0
 
 

@@ -15,6 +15,9 @@ import unittest
 
 import datatype_schemas
 import datatypes_run
+import value_judges
+import value_texts
+import values_run
 import pattern_expressions
 import pattern_judges
 import pattern_reasons
@@ -258,6 +261,46 @@ class DatatypesTest(unittest.TestCase):
         if not RNCV_XML.exists() or not shutil.which("jing"):
             self.skipTest("rncv-xml or jing is not installed")
         run = subprocess.run([sys.executable, "-B", HERE / "datatypes_run.py", "--seed", "test", "--rows", "1", "--program", RNCV_XML],
+                             capture_output=True, text=True, check=False)
+        self.assertEqual(run.returncode, 0, run.stdout + run.stderr)
+        self.assertIn("0 differences without an explanation", run.stdout)
+
+
+class ValuesTest(unittest.TestCase):
+    """`values_run.py`, which needs jing."""
+
+    def test_that_a_seed_says_all(self):
+        made = [[value_texts.made(random.Random(number)).pattern() for number in range(300)] for _ in range(2)]
+        self.assertEqual(made[0], made[1])
+        self.assertEqual({name for name in value_texts.NAMES if any(pattern.startswith(f"xsd:{name}") for pattern in made[0])}, set(value_texts.NAMES))
+
+    def test_what_python_says(self):
+        for name, parameters, value, text, verdict in (
+                ("decimal", {"totalDigits": "3"}, None, "1.230", "valid"), ("decimal", {"fractionDigits": "1"}, None, "1.23", "invalid"),
+                ("decimal", {"totalDigits": "3"}, None, "0.0001", "invalid"), ("float", {}, "16777216", "16777217", "valid"),
+                ("float", {}, "16777216", "16777217.00000000000001", "invalid"), ("float", {"maxInclusive": "NaN"}, None, "NaN", "valid"),
+                ("duration", {"minInclusive": "P30D"}, None, "P1M", "invalid"), ("duration", {}, "P1Y", "P12M", "invalid"),
+                ("time", {}, "00:00:00Z", "19:00:00-05:00", "valid"), ("gMonthDay", {}, None, "--02-30", "invalid"),
+                ("dateTime", {"maxExclusive": "2000-01-01T00:00:00"}, None, "1999-12-31T10:00:00Z", "invalid"),
+                ("hexBinary", {}, "aF", "Af", "valid"), ("base64Binary", {"maxLength": "1"}, None, "A A = =", "valid")):
+            self.assertEqual(value_judges.judged(value_texts.Made(name, parameters, value), text), verdict, (name, text))
+
+    def test_dates_beside_datetime(self):
+        for name, text in (("dateTime", "0001-01-01T00:00:00+14:00"), ("date", "9999-12-31-13:59"), ("time", "23:59:59.999999Z"), ("gMonthDay", "--02-29Z")):
+            self.assertEqual(value_judges.by_datetime(name, text) is not None, not text.startswith("0001"), text)
+            self.assertTrue(value_judges.is_dated_alike(name, text), text)
+
+    def test_reasons(self):
+        for name, parameters, text, reason in (
+                ("time", {}, "24:00:00", "midnight"), ("dateTime", {}, "2000-01-01T00:00:60", "seconds"), ("duration", {}, "PT.5S", "point"),
+                ("gDay", {}, "---01-14:00", "zone"), ("gYear", {}, "99999999999-01:00", "limits"), ("decimal", {"totalDigits": "1"}, "1.0", "digits"),
+                ("time", {"minInclusive": "01:00:00Z"}, "00:00:00", "recurs"), ("date", {}, "2000-01-01", None), ("float", {}, "1", None)):
+            self.assertEqual(values_run.reason_of_text(value_texts.Made(name, parameters), text), reason, (name, text))
+
+    def test_that_nothing_differs(self):
+        if not RNCV_XML.exists() or not shutil.which("jing"):
+            self.skipTest("rncv-xml or jing is not installed")
+        run = subprocess.run([sys.executable, "-B", HERE / "values_run.py", "--seed", "test", "--rows", "1", "--program", RNCV_XML],
                              capture_output=True, text=True, check=False)
         self.assertEqual(run.returncode, 0, run.stdout + run.stderr)
         self.assertIn("0 differences without an explanation", run.stdout)

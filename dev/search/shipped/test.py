@@ -50,7 +50,7 @@ class Shipped(unittest.TestCase):
         return out.getvalue().split("\n"), status
 
     def test_each_kind(self):
-        lines, status = self.report(self.folder)
+        lines, status = self.report("--datatypes", "profile", self.folder)
         self.assertIn("| some | 7 | 2 | 1 | 1 | 3 | 0 | 0, 0 | 0 |", lines)
         self.assertEqual(status, 1)
         self.assertIn("| `xsd:date` | 1 | 0 |", lines)
@@ -63,10 +63,10 @@ class Shipped(unittest.TestCase):
             self.skipTest("jing is not installed")
         for name in ("hidden.rnc", "far.rnc"):
             (self.folder / name).unlink()
-        lines, status = self.report("--documents", self.folder, self.folder, has_jing=True)
+        lines, status = self.report("--datatypes", "profile", "--documents", self.folder, self.folder, has_jing=True)
         self.assertIn("| some | 5 | 2 | 1 | 2 | 0 | 0 | 6, 2 | 0 |", lines)
         self.assertEqual((lines[-2:], status), (["", ""], 0))
-        lines, status = self.report("--own", 9, "--list", self.folder, has_jing=True)
+        lines, status = self.report("--datatypes", "profile", "--own", 9, "--list", self.folder, has_jing=True)
         self.assertIn("| some | 5 | 2 | 1 | 2 | 0 | 0 | 6, 2 | 0 |", lines)
         self.assertIn(f"served: {self.folder}/same.rng", lines)
         self.assertIn(f"datatypes: {self.folder}/dates.rnc: pattern, xsd:date, xsd:decimal", lines)
@@ -84,7 +84,7 @@ class Shipped(unittest.TestCase):
 
     def test_sets_of_datatypes(self):
         (self.folder / "larger.rnc").write_text("element a { attribute x { xsd:int { maxExclusive = \"5\" } }, xsd:QName }", encoding="utf-8")
-        self.assertIn("| some | 8 | 3 | 1 | 1 | 3 | 0 | 0, 0 | 0 |", self.report(self.folder)[0])
+        self.assertIn("| some | 8 | 4 | 0 | 1 | 3 | 0 | 0, 0 | 0 |", self.report(self.folder)[0])
         lines, _ = self.report("--datatypes", "profile", self.folder)
         self.assertIn("| some | 8 | 2 | 2 | 1 | 3 | 0 | 0, 0 | 0 |", lines)
         self.assertIn("| `xsd:QName` | 1 | 0 |", lines)
