@@ -18,7 +18,6 @@ import subprocess
 import sys
 import tempfile
 import threading
-import time
 import unittest
 import urllib.parse
 import zlib
@@ -73,15 +72,18 @@ def colours_of(picture):
     return width, height, len(set(zlib.decompress(packed)))
 
 
-# A page that shows what a search finds. It has not loaded until the server has answered about the picture.
+# A page that shows what a search finds, and then says so to the server. It has not loaded until the server has answered about the picture.
 PROBE = b"""<iframe src="/search.html?q=attributes"></iframe><div id="found"></div><img src="/slow.png"><script>
-setInterval(() => { found.innerHTML = frames[0].document.getElementById("mkdocs-search-results").innerHTML; }, 100);
+const looking = setInterval(() => {
+    found.innerHTML = frames[0].document.getElementById("mkdocs-search-results").innerHTML;
+    if (found.querySelector("a")) { clearInterval(looking); fetch("/found"); }
+}, 100);
 </script>"""
 
 
 class Server(http.server.SimpleHTTPRequestHandler):
-    """Serves a folder, and the page PROBE, whose picture comes some seconds after the index of the search was asked for."""
-    asked = threading.Event()
+    """Serves a folder, and the page PROBE, whose picture comes once the page has found something, or after two minutes."""
+    found = threading.Event()
 
     def do_GET(self):
         if self.path == "/probe.html":
@@ -90,11 +92,10 @@ class Server(http.server.SimpleHTTPRequestHandler):
             self.end_headers()
             self.wfile.write(PROBE)
             return
-        if "search_index.json" in self.path:
-            self.asked.set()
+        if self.path == "/found":
+            self.found.set()
         if self.path == "/slow.png":
-            self.asked.wait(60)
-            time.sleep(5)
+            self.found.wait(120)
         super().do_GET()
 
     def log_message(self, *_):
