@@ -223,7 +223,7 @@ put 644 programs/packaging/editors/rncv.vim share/vim/vimfiles/compiler/rncv.vim
 put 644 programs/packaging/editors/rncv.el share/emacs/site-lisp/rncv.el
 
 # pages and examples
-for source in README.md CHANGELOG.md LICENSE docs/use/*.md docs/proof/GLOSSARY.md docs/proof/PROVED.md; do
+for source in README.md CHANGELOG.md LICENSE docs/use/*.md docs/proof/GLOSSARY.md docs/proof/PROVED.md docs/develop/ways.svg; do
     if [ -f "$source" ]; then
         put 644 "$source" "$doc/$source"
     fi

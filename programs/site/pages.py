@@ -12,6 +12,7 @@ import sys
 TOP = pathlib.Path(__file__).resolve().parents[2]
 SHELVES = (("To use it", "use"), ("To believe it", "proof"), ("To develop it", "develop"))
 FENCE = re.compile(r"^(```)([^`\n]*)$", re.M)
+PICTURE = re.compile(r"\]\(docs/(\S+\.svg)\)")
 PATH = re.compile(r"`(docs/(?:\w+/)?\w+\.md|README\.md|CHANGELOG\.md)`")
 CODE_IN_ROW = re.compile(r"`[^`]*`")
 CLAUSE = re.compile(r"^### (([SP])(\d+)): ([^\n]*)\n(.*?)^```broken\n(.*?)^```\n(.*?)^```repair\n(.*?)^```$", re.M | re.S)
@@ -56,7 +57,7 @@ def fence(found):
 
 def page(place, text):
     """A page in the form that mkdocs reads."""
-    text = outside_fences(text, lambda part: "\n".join(map(row, PATH.sub(lambda found: link(place, found), part).split("\n"))))
+    text = outside_fences(text, lambda part: "\n".join(map(row, PATH.sub(lambda found: link(place, found), PICTURE.sub(r"](\1)", part)).split("\n"))))
     return FENCE.sub(fence, text)
 
 
