@@ -3,7 +3,7 @@
 //!
 //! A text is judged by the positions of the expression, without memory and in one pass. The positions that it may be at
 //! are closed by a work list, each at most once. For texts of ASCII a table has such sets of positions, so that a
-//! character costs one look-up. No program uses this crate yet.
+//! character costs one look-up.
 #![tactic(auto)]
 
 mod alike;

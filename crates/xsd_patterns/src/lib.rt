@@ -1,7 +1,7 @@
 //! The facet `pattern` of XML Schema: which texts match regular expressions as a whole (XML Schema Part 2, Second Edition,
 //! section 4.3.4 and appendix F).
 //!
-//! `xsd_regex` says what expressions are and what they match, in `specs/Patterns.antt`. No program uses this crate yet.
+//! `rng_model/specs/regexes` says what expressions are, and what they match.
 #![tactic(auto)]
 
 mod parameters;

@@ -1,6 +1,7 @@
 //! Regular expressions of XML Schema: which texts are expressions, and what they match.
 //!
-//! XML Schema Part 2, Second Edition, appendix F. The definitions are in `specs/`. No program uses this crate yet.
+//! XML Schema Part 2, Second Edition, appendix F. The definitions are in
+//! `rng_model/specs/regexes`.
 #![tactic(auto)]
 
 mod class;

@@ -1,5 +1,5 @@
--- Which value a text has in each type of the complete set (XML Schema Part 2, Second Edition, sections 3.2 and 3.3).
--- Those of `string`, `token`, `NCName`, `NMTOKEN` and `boolean` are in rng_model.
+-- Which value a text has in the types of texts, lists and integers (XML Schema Part 2, Second Edition, sections 3.2 and 3.3). Those
+-- of `string`, `token`, `NCName`, `NMTOKEN` and `boolean` are in `datatypes/Datatypes.antt`, other primitive types in `primitives`.
 use Rattle.std.specs.Prelude.{ℕ, List, [], ◌∷◌, length, Bool, false, Option, Some, None, ℤ, ◌&&◌, if◌then◌else◌}
 use Rattle.std.specs.List.{list_all}
 use Rattle.std.specs.Option.{option_and_then}
