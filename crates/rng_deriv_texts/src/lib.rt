@@ -1,4 +1,5 @@
-//! What is left of a numbered pattern after a string, and after the attributes of a start tag.
+//! What is left of a numbered pattern after a string, and after the attributes of a start tag; and whether an except has a
+//! text.
 //!
 //! The ways of the pattern (`rng_deriv_ways`) say which leaf may take the string or the attribute, and what is
 //! left then. The leaves are tested. What is left takes what may follow, by the rules of matching (RELAX NG
@@ -15,3 +16,4 @@ mod texts;
 mod value_index;
 
 pub use after::{after_tag, after_text};
+pub use texts::is_excepted;

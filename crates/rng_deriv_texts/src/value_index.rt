@@ -51,6 +51,7 @@ fn plain_compares_texts(datatype: &PlainType) -> bool
         PlainType::Token(_) => true,
         PlainType::NcName(_) => true,
         PlainType::NmToken(_) => true,
+        PlainType::Uri(_) => true,
         PlainType::Word(_) => true,
         PlainType::List(_) => true,
         PlainType::Boolean(_) | PlainType::Octets(_) => false,

@@ -5,6 +5,8 @@ pub mod Facets
 pub mod Limits
 pub mod Integers
 pub mod Types
+pub mod UriCharacters
+pub mod Uris
 pub mod primitives
 pub mod Datatypes
 pub mod TypeSets

@@ -26,6 +26,7 @@ mod numerals;
 mod octets;
 mod plain_type;
 mod range;
+mod uris;
 mod words;
 mod xsd_type;
 
@@ -46,5 +47,6 @@ pub use number_facets::NumberFacets;
 pub use octets::{OctetKind, Octets};
 pub use plain_type::PlainType;
 pub use range::Range;
+pub use uris::Uri;
 pub use words::{Word, WordKind};
 pub use xsd_type::XsdType;

@@ -21,6 +21,7 @@ use crate::lists::List;
 use crate::moments::{MomentBound, Moments};
 use crate::normalized::NormalizedString;
 use crate::octets::Octets;
+use crate::uris::Uri;
 use crate::words::{Word, WordKind};
 use rng_types::{Boolean, Datatype, Lengths, NcName, NmToken, XsdString, XsdToken};
 use std::alloc::Global;
@@ -33,6 +34,7 @@ pub enum PlainType {
     Token(XsdToken),
     NcName(NcName),
     NmToken(NmToken),
+    Uri(Uri),
     Word(Word),
     List(List),
     Boolean(Boolean),
@@ -94,6 +96,7 @@ fn with_lengths(kind: TextKind, lengths: Lengths) -> PlainType
         TextKind::Token => PlainType::Token(XsdToken { lengths }),
         TextKind::NcName => PlainType::NcName(NcName { lengths }),
         TextKind::NmToken => PlainType::NmToken(NmToken { lengths }),
+        TextKind::Uri => PlainType::Uri(Uri { lengths }),
         TextKind::Word(kind) => PlainType::Word(Word { kind, lengths }),
         TextKind::List(kind) => PlainType::List(List { kind, lengths }),
         TextKind::Octets(kind) => PlainType::Octets(Octets { kind, lengths }),
@@ -133,6 +136,7 @@ impl Datatype for PlainType {
             PlainType::Token(datatype) => datatype.allows(text),
             PlainType::NcName(datatype) => datatype.allows(text),
             PlainType::NmToken(datatype) => datatype.allows(text),
+            PlainType::Uri(datatype) => datatype.allows(text),
             PlainType::Word(datatype) => datatype.allows(text),
             PlainType::List(datatype) => datatype.allows(text),
             PlainType::Boolean(datatype) => datatype.allows(text),
@@ -152,6 +156,7 @@ impl Datatype for PlainType {
             PlainType::Token(datatype) => datatype.equal(a, b),
             PlainType::NcName(datatype) => datatype.equal(a, b),
             PlainType::NmToken(datatype) => datatype.equal(a, b),
+            PlainType::Uri(datatype) => datatype.equal(a, b),
             PlainType::Word(datatype) => datatype.equal(a, b),
             PlainType::List(datatype) => datatype.equal(a, b),
             PlainType::Boolean(datatype) => datatype.equal(a, b),

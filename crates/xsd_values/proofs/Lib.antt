@@ -1,5 +1,4 @@
 mod Examples
-pub mod MatchedUris
 pub mod CalendarLaws
 pub mod ZoneLaws
 pub mod OneDecimal

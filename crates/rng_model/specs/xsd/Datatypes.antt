@@ -14,6 +14,7 @@ use Rattle.rng_model.specs.xsd.Names.{replaced}
 use Rattle.rng_model.specs.xsd.Numbers.{written_integer}
 use Rattle.rng_model.specs.xsd.Facets.{written_lengths}
 use Rattle.rng_model.specs.xsd.Integers.{written_facets}
+use Rattle.rng_model.specs.xsd.Uris.{xsd_any_uri}
 use Rattle.rng_model.specs.xsd.primitives.Floats.{floats}
 use Rattle.rng_model.specs.xsd.primitives.Octets.{hex_length, hex_binary_of, base64_length, base64_binary_of}
 use Rattle.rng_model.specs.xsd.primitives.Zones.{ordered_by}
@@ -66,7 +67,7 @@ abbrev pub text_types : List (List ℕ × Maker)
 text_types =
     (codes "string", preserving (with_lengths xsd_string)) ∷  -- section 3.2.1
     (codes "boolean", collapsing (without xsd_boolean)) ∷  -- 3.2.2
-    (codes "anyURI", collapsing (with_lengths xsd_token)) ∷  -- 3.2.17, by its white space alone
+    (codes "anyURI", collapsing (with_lengths xsd_any_uri)) ∷  -- 3.2.17
     (codes "QName", collapsing (without xsd_qname)) ∷  -- 3.2.18, by its spelling
     (codes "NOTATION", collapsing (without xsd_qname)) ∷  -- 3.2.19, by its spelling
     (codes "normalizedString", replacing (with_lengths xsd_normalized)) ∷  -- 3.3.1

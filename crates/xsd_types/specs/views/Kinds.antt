@@ -2,6 +2,7 @@
 use Rattle.rng_model.specs.datatypes.Facets.{Lengths}
 use Rattle.rng_model.specs.datatypes.Datatypes.{Meaning, Maker, without, xsd_string, xsd_token, xsd_ncname, xsd_nmtoken, xsd_boolean}
 use Rattle.rng_model.specs.xsd.Types.{xsd_normalized, xsd_word, xsd_list, xsd_qname}
+use Rattle.rng_model.specs.xsd.Uris.{xsd_any_uri}
 use Rattle.rng_model.specs.xsd.Datatypes.{with_lengths, with_number_facets}
 use Rattle.rng_model.specs.xsd.primitives.Durations.{durations}
 use Rattle.rng_model.specs.xsd.primitives.Floats.{floats}
@@ -29,6 +30,7 @@ text_meaning texts.NormalizedString l = xsd_normalized l
 text_meaning texts.Token l = xsd_token l
 text_meaning texts.NcName l = xsd_ncname l
 text_meaning texts.NmToken l = xsd_nmtoken l
+text_meaning texts.Uri l = xsd_any_uri l
 text_meaning (texts.Word k) l = xsd_word (word_test k) l
 text_meaning (texts.List k) l = xsd_list (item_test k) l
 text_meaning (texts.Octets k) l = octets_by k l

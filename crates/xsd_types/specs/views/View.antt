@@ -6,6 +6,7 @@ use Rattle.rng_model.specs.datatypes.Datatypes.{Meaning, is_nmtoken, xsd_string,
 use Rattle.rng_types.specs.views.View as builtin
 use Rattle.rng_types.specs.views.View.{lengths_of}
 use Rattle.rng_model.specs.xsd.Names.{is_name, is_language, is_qname}
+use Rattle.rng_model.specs.xsd.Uris.{xsd_any_uri}
 use Rattle.rng_model.specs.xsd.Types.{xsd_normalized, xsd_word, xsd_list}
 use Rattle.xsd_types.specs.views.Numbers.{number_meaning}
 use Rattle.xsd_types.specs.views.Octets.{octets_by}
@@ -39,6 +40,7 @@ plain_meaning (types.NormalizedString d) = xsd_normalized (lengths_of d.lengths)
 plain_meaning (types.Token d) = xsd_token (lengths_of d.lengths)
 plain_meaning (types.NcName d) = xsd_ncname (lengths_of d.lengths)
 plain_meaning (types.NmToken d) = xsd_nmtoken (lengths_of d.lengths)
+plain_meaning (types.Uri d) = xsd_any_uri (lengths_of d.lengths)
 plain_meaning (types.Word d) = xsd_word (word_test d.kind) (lengths_of d.lengths)
 plain_meaning (types.List d) = xsd_list (item_test d.kind) (lengths_of d.lengths)
 plain_meaning (types.Boolean d) = xsd_boolean

@@ -1,4 +1,5 @@
 use Rattle.std.proofs.Common.{subst, sym}
+use Rattle.rng_model.specs.xsd.Uris.{is_uri}
 use Rattle.rng_types.specs.views.View.{lengths_of}
 use Rattle.xsd_types.specs.views.View.{item_test, plain_meaning, word_test}
 use Rattle.rng_deriv_texts.specs.plain.ValueWays.{ComparesTexts}
@@ -25,6 +26,10 @@ returns-in-NcName c = λ e.
 pub returns-in-NmToken : goal.returns-in-NmToken
 returns-in-NmToken c = λ e.
     subst (λ d. ComparesTexts (plain_meaning d)) (sym c.in-NmToken.is) (nmtoken_compares (lengths_of c.in-NmToken.field-0.lengths))
+
+pub returns-in-Uri : goal.returns-in-Uri
+returns-in-Uri c = λ e.
+    subst (λ d. ComparesTexts (plain_meaning d)) (sym c.in-Uri.is) (word_compares (lengths_of c.in-Uri.field-0.lengths) is_uri)
 
 pub returns-in-Word : goal.returns-in-Word
 returns-in-Word c = λ e.

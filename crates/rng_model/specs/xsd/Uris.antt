@@ -1,10 +1,14 @@
 -- anyURI: which texts are URI references once they are escaped (XML Schema Part 2, Second Edition, section 3.2.17; RFC 2396,
 -- appendix A, as RFC 2732 amends it; XLink 1.0, section 5.4). The productions have the names of the RFCs.
-use Rattle.std.specs.Prelude.{codes, ℕ, List, [], ◌∷◌, Some}
+use Rattle.std.specs.Prelude.{codes, ℕ, List, [], ◌∷◌, Bool, Option, Some}
 use Rattle.std.specs.Str.{chars}
-use Rattle.rng_model.specs.regexes.Expressions.{Regex, times, Matches}
-use Rattle.xsd_values.specs.UriCharacters.{in_order, any_of, many, some, optional, one_in, the}
-use Rattle.xsd_values.specs.UriCharacters.{digit, alpha, alphanum, hex, unreserved, escaped, uric, uric_no_slash, pchar}
+use Rattle.rng_model.specs.datatypes.Texts.{Value}
+use Rattle.rng_model.specs.datatypes.Facets.{Lengths}
+use Rattle.rng_model.specs.regexes.Expressions.{Regex, times}
+use Rattle.rng_model.specs.regexes.plain.Decided.{is_match}
+use Rattle.rng_model.specs.xsd.Types.{xsd_word}
+use Rattle.rng_model.specs.xsd.UriCharacters.{in_order, any_of, many, some, optional, one_in, the}
+use Rattle.rng_model.specs.xsd.UriCharacters.{digit, alpha, alphanum, hex, unreserved, escaped, uric, uric_no_slash, pchar}
 
 -- ---- authorities
 
@@ -116,6 +120,12 @@ relative_uri = in_order (optional (any_of (net_path ∷ abs_path ∷ rel_path �
 abbrev pub uri_reference : Regex
 uri_reference = in_order (optional (any_of (absolute_uri ∷ relative_uri ∷ [])) ∷ optional (in_order (the 0x23 ∷ fragment ∷ [])) ∷ [])
 
--- the text is an anyURI, once it is collapsed
-abbrev pub IsUri : List ℕ → Type 0
-IsUri s = Matches uri_reference (chars s)
+-- ---- anyURI
+
+-- The text is a URI reference once it is escaped. `is_match` says what `Matches` says.
+unfoldable pub is_uri : List ℕ → Bool
+is_uri s = is_match uri_reference (chars s)
+
+-- The text is collapsed first, and the lengths count its characters as they are before they are escaped (sections 3.2.17 and 4.3.1).
+abbrev pub xsd_any_uri : Lengths → List ℕ → Option Value
+xsd_any_uri = xsd_word is_uri

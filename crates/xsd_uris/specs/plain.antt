@@ -1,0 +1,3 @@
+pub mod DoubleColons
+pub mod TrimmedTexts
+pub mod UriShapes

@@ -1,2 +1,0 @@
-pub mod UriCharacters
-pub mod Uris
