@@ -12,7 +12,7 @@ use Rattle.xsd_positions.specs.declared.position.Position.{Position}
 use Rattle.xsd_positions.specs.views.Positions.{part_of, position_of}
 use Rattle.xsd_positions.specs.views.Positions.{class_at}
 use Rattle.xsd_automaton.specs.plain.Closures.{IsClosed, next_of, next_at, nexts, AcceptsFrom, StepsTo}
-use Rattle.xsd_automaton.specs.plain.Sets.{AreAlike, HasTarget, no_target, to_empty, to_set, members_at}
+use Rattle.xsd_automaton.specs.plain.Sets.{AreAlike, HasTarget, no_target, to_set, members_at}
 use Rattle.xsd_automaton.proofs.Edges.{behind_char}
 
 unset : (xs : List Bool) (n : ℕ) → get_or (set xs n false) n false ≡ false
@@ -98,5 +98,4 @@ module _ (ps : List plain.Position) (c d : ℕ) (alike : AreAlike ps c d) where
 
   pub target_alike : (sets : List (List ℕ)) (is : List ℕ) (t : ℕ) → IsClosed ps is → HasTarget ps sets is d t → HasTarget ps sets is c t
   target_alike sets is t closed (no_target e) = no_target e
-  target_alike sets is t closed (to_empty e steps) = to_empty e (step_alike is [] closed steps)
   target_alike sets is t closed (to_set lt steps) = to_set lt (step_alike is (members_at sets t) closed steps)

@@ -6,7 +6,7 @@ use Rattle.std.proofs.lemmas.List.{get_or_append_left, get_or_push, get_or-set_s
 use Rattle.xsd_regex.specs.plain.Positions.{Position}
 use Rattle.xsd_automaton.specs.plain.Closures.{IsClosed, StepsTo}
 use Rattle.xsd_automaton.specs.plain.Sets.{no_set, members_at, AreSets, IsLonger, HasTarget, AreTargets, IsNumbered}
-use Rattle.xsd_automaton.specs.plain.Sets.{no_target, to_empty, to_set, is_empty, is_there, is_added, has_none}
+use Rattle.xsd_automaton.specs.plain.Sets.{no_target, to_set, is_there, is_added, has_none}
 
 -- ---- one more set
 
@@ -29,7 +29,6 @@ module _ (ps : List Position) (is : List ℕ) (sets more : List (List ℕ)) wher
       ]
 
   pub numbered_sets : (t : ℕ) → AreSets ps sets → IsClosed ps is → length is ≤ 12289 → IsNumbered is sets more t → AreSets ps more
-  numbered_sets t are closed short (is_empty same none e) = subst (AreSets ps) (sym same) are
   numbered_sets t are closed short (is_there same lt e) = subst (AreSets ps) (sym same) are
   numbered_sets t are closed short (is_added e at few) = record {
     few = let one = length-append sets (is ∷ []) in let len = ap (λ l. length l) e in omega (arith, at, few, one, len);
@@ -39,7 +38,6 @@ module _ (ps : List Position) (is : List ℕ) (sets more : List (List ℕ)) wher
   numbered_sets t are closed short (has_none same none) = subst (AreSets ps) (sym same) are
 
   pub numbered_target : (t c : ℕ) (from : List ℕ) → StepsTo ps c from is → IsNumbered is sets more t → HasTarget ps more from c t
-  numbered_target t c from steps (is_empty same none e) = to_empty e (subst (StepsTo ps c from) none steps)
   numbered_target t c from steps (is_there same lt e) =
       to_set (subst (λ l. t < length l) (sym same) lt) (subst (StepsTo ps c from) (sym (ap (λ l. members_at l t) same ∙ e)) steps)
   numbered_target t c from steps (is_added e at few) =
@@ -53,7 +51,6 @@ module _ (ps : List Position) (is : List ℕ) (sets more : List (List ℕ)) wher
 module _ (ps : List Position) (sets more : List (List ℕ)) (longer : IsLonger sets more) where
   pub longer_target : (from : List ℕ) (c t : ℕ) → HasTarget ps sets from c t → HasTarget ps more from c t
   longer_target from c t (no_target none) = no_target none
-  longer_target from c t (to_empty none steps) = to_empty none steps
   longer_target from c t (to_set lt steps) =
       let many = longer.many in to_set (omega (arith, many, lt)) (subst (StepsTo ps c from) (sym (longer.same t lt)) steps)
 

@@ -7,6 +7,9 @@ pub mod ReadTexts
 pub mod SetTables
 pub mod AlikeChars
 pub mod GrownSets
+pub mod MadeRows
+pub mod BegunChars
+pub mod PastAscii
 pub mod Within
 pub mod TreatedParts
 pub mod TreatedRuns

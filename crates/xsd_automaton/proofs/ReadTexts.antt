@@ -84,14 +84,3 @@ module _ (ps : List Position) where
     λ m. has_if is (length ps) ((at_end ps is closed of.states of.are).0 ((leads of.states of.are []).0
         (subst (AcceptsState (state_at of.states first)) (sym (append-nil s)) (of.to s m)))),
   )
-
-  -- behind positions of which there are none, there are none
-  pub empty_on : (first : ℕ) (read more : List ℕ) → LeadsTo ps first read [] → LeadsTo ps first (read ++ more) []
-  empty_on first read more leads states are s = (
-    λ a. (leads states are (more ++ s)).0 (subst (AcceptsState (state_at states first)) (append_assoc read more s) a),
-    λ h. absurd h,
-  )
-
-  pub empty_rejects : (r : Regex) (first : ℕ) (s : List ℕ) → ArePositionsOf r first ps → LeadsTo ps first s [] → Matches r s → ⊥
-  empty_rejects r first s of leads m =
-      (leads of.states of.are []).0 (subst (AcceptsState (state_at of.states first)) (sym (append-nil s)) (of.to s m))

@@ -1,55 +1,46 @@
 -- What a text leads to by a table of sets.
 use Rattle.std.proofs.Common.{◌≡◌, ◌↔◌, ◌∙◌, ◌⊎◌, ◌<◌, ℕ, zero, suc, List, [], ◌∷◌, ◌++◌, length, Bool, Some, true, refl, sym, ap}
-use Rattle.std.proofs.Common.{subst, inl, inr, arith, Option, None, IfSome, false, true≢false}
+use Rattle.std.proofs.Common.{subst, inl, inr, arith, Option, None, IfSome}
 use Rattle.std.specs.List.{slice_get}
-use Rattle.std.proofs.lemmas.Option.{slice_get_within, get_or_from_slice_get}
+use Rattle.std.proofs.lemmas.Option.{slice_get_within}
 use Rattle.rng_model.specs.regexes.Expressions.{Regex, Matches}
 use Rattle.xsd_regex.specs.plain.Positions.{Position, ArePositionsOf}
 use Rattle.xsd_automaton.specs.declared.sets.SetRow.{SetRow}
-use Rattle.xsd_automaton.specs.plain.Closures.{LeadsTo, has_number}
-use Rattle.xsd_automaton.specs.plain.Sets.{no_set, empty_set, members_at, HasTarget, no_target, to_empty, to_set, IsLonger, IsRow, AreEnds}
+use Rattle.xsd_automaton.specs.plain.Closures.{has_number}
+use Rattle.xsd_automaton.specs.plain.Sets.{no_set, members_at, HasTarget, no_target, to_set, IsLonger, IsRow, AreTargets, AreEnds}
+use Rattle.xsd_automaton.specs.plain.BegunChars.{AreBegun, of_ascii, of_past, of_further}
+use Rattle.xsd_automaton.proofs.BegunChars.{nothing_begun}
+use Rattle.std.proofs.lemmas.List.{append-nil}
+use Rattle.std.proofs.Common.{get_or}
 use Rattle.xsd_automaton.specs.views.Sets.{IsSetTable, AreTables, LeadsToSet, AreRows}
-use Rattle.xsd_automaton.proofs.ReadTexts.{leads_on, empty_on, empty_rejects, judged}
-use Rattle.xsd_automaton.proofs.GrownSets.{longer_targets}
+use Rattle.xsd_automaton.proofs.ReadTexts.{leads_on, judged}
+use Rattle.xsd_automaton.proofs.GrownSets.{longer_target, longer_targets}
 
 module _ (ps : List Position) (first : ℕ) (rows : List SetRow) (table : IsSetTable ps first rows) where
-  pub to_target : (set b t : ℕ) (row : SetRow) (read : List ℕ) → slice_get rows set ≡ Some row → b < 128 → slice_get row.targets b ≡ Some t
-      → LeadsToSet ps first rows table set read → LeadsToSet ps first rows table t (read ++ b ∷ [])
-  to_target set b t row read at ascii e is =
-      by_target (subst (HasTarget ps table.sets (members_at table.sets set) b) (get_or_from_slice_get row.targets b t no_set e)
-      (table.each set row at b ascii))
-    where
-      leads : LeadsTo ps first read (members_at table.sets set)
-      leads = is.row (slice_get_within rows set row at)
+  to_target : (set c t : ℕ) (read : List ℕ) → set < length rows → HasTarget ps table.sets (members_at table.sets set) c t
+      → LeadsToSet ps first rows table set read → LeadsToSet ps first rows table t (read ++ c ∷ [])
+  to_target set c t read within (no_target none) is =
+      let many = table.many in let few = table.are.few in record { row = λ lt. absurd (omega (arith, lt, many, few, none)) }
+  to_target set c t read within (to_set lt steps) is =
+      record { row = λ _. leads_on ps first c read (members_at table.sets set) (members_at table.sets t) (is.row within) steps }
 
-      by_target : HasTarget ps table.sets (members_at table.sets set) b t → LeadsToSet ps first rows table t (read ++ b ∷ [])
-      by_target (no_target none) =
-          let many = table.many in
-          let few = table.are.few in
-          record { row = λ lt. absurd (omega (arith, lt, many, few, none)); empty = λ e. absurd (omega (arith, e, none)) }
-      by_target (to_empty none steps) =
-          let many = table.many in
-          let few = table.are.few in
-          record {
-            row = λ lt. absurd (omega (arith, lt, many, few, none));
-            empty = λ e. leads_on ps first b read (members_at table.sets set) [] leads steps;
-          }
-      by_target (to_set lt steps) =
-          let few = table.are.few in
-          record {
-            row = λ _. leads_on ps first b read (members_at table.sets set) (members_at table.sets t) leads steps;
-            empty = λ e. absurd (omega (arith, e, lt, few));
-          }
-
-  -- no row, so no set, or the set without positions
-  pub no_row : (set : ℕ) (read more : List ℕ) → set ≡ empty_set → LeadsToSet ps first rows table set read → LeadsToSet ps first rows table set (read ++ more)
-  no_row set read more e is =
-      let many = table.many in
-      let few = table.are.few in
-      record { row = λ lt. absurd (omega (arith, lt, many, few, e)); empty = λ _. empty_on ps first read more (is.empty e) }
+  pub behind_byte : (set b t : ℕ) (row : SetRow) (read cs : List ℕ) → slice_get rows set ≡ Some row → t ≡ get_or row.targets b no_set
+      → AreBegun (b ∷ []) cs → LeadsToSet ps first rows table set read → LeadsToSet ps first rows table t (read ++ cs)
+  behind_byte set b t row read _ at e (of_ascii {cs} lt rest) is =
+      subst (λ l. LeadsToSet ps first rows table t (read ++ b ∷ l)) (sym (nothing_begun cs rest))
+      (to_target set b t read (slice_get_within rows set row at)
+      (subst (HasTarget ps table.sets (members_at table.sets set) b) (sym e) ((table.each set row at).ascii b lt)) is)
+  behind_byte set b t row read _ at e (of_past {c} {cs} from past rest) is =
+      subst (λ l. LeadsToSet ps first rows table t (read ++ c ∷ l)) (sym (nothing_begun cs rest))
+      (to_target set c t read (slice_get_within rows set row at)
+      (subst (HasTarget ps table.sets (members_at table.sets set) c) (sym e) ((table.each set row at).past b c from past)) is)
+  behind_byte set b t row read cs at e (of_further from below rest) is =
+      let same : set ≡ t = sym (e ∙ (table.each set row at).further b from below) in
+      let none : read ++ cs ≡ read = ap (λ l. read ++ l) (nothing_begun cs rest) ∙ append-nil read in
+      subst (λ l. LeadsToSet ps first rows table t l) (sym none) (subst (λ n. LeadsToSet ps first rows table n read) same is)
 
   pub starts : LeadsToSet ps first rows table 0 []
-  starts = record { row = λ _. table.start; empty = λ e. absurd (omega (arith, e)) }
+  starts = record { row = λ _. table.start }
 
 -- whether the end is in the set that the text leads to
 judged_in : (ps : List Position) (first : ℕ) (rows : List SetRow) (ends : List Bool) (tables : AreTables ps first rows ends) (r : Regex) (set : ℕ)
@@ -72,12 +63,6 @@ pub judged_end : (ps : List Position) (first : ℕ) (rows : List SetRow) (ends :
 judged_end ps first rows ends tables r set read of leads None e = tt
 judged_end ps first rows ends tables r set read of leads (Some b) e = judged_in ps first rows ends tables r set b read of (sym e) leads
 
--- nothing is accepted behind no positions
-pub rejected : (ps : List Position) (first : ℕ) (rows : List SetRow) (table : IsSetTable ps first rows) (r : Regex) (set : ℕ) (read : List ℕ)
-    → ArePositionsOf r first ps → set ≡ empty_set → LeadsToSet ps first rows table set read → (false ≡ true) ↔ Matches r read
-rejected ps first rows table r set read of e leads =
-    (λ h. absurd (true≢false (sym h)), λ m. absurd (empty_rejects ps r first read of (leads.empty e) m))
-
 -- ---- one more row
 
 pushed_get : {A : Type 0} (xs : List A) (x : A) (i : ℕ) (y : A) → slice_get (xs ++ x ∷ []) i ≡ Some y
@@ -97,15 +82,23 @@ each_more P xs x all e each last i y at =
     ]
 
 module _ (ps : List Position) (sets more : List (List ℕ)) (longer : IsLonger sets more) where
+  longer_row : (own : ℕ) (targets : List ℕ) → own < length sets → IsRow ps sets own targets → IsRow ps more own targets
+  longer_row own targets lt is =
+      let same : members_at sets own ≡ members_at more own = sym (longer.same own lt) in
+      record {
+        ascii =
+            subst (λ l. AreTargets ps more l 128 targets) same (longer_targets ps (members_at sets own) targets 128 0 sets more longer is.ascii);
+        past = λ b c from past.
+            subst (λ l. HasTarget ps more l c (get_or targets b no_set)) same
+            (longer_target ps sets more longer (members_at sets own) c (get_or targets b no_set) (is.past b c from past));
+        further = is.further;
+      }
+
   pub rows_pushed : (rows : List SetRow) (row : SetRow) (all : List SetRow) → length rows < length sets → AreRows ps sets rows → all ≡ rows ++ row ∷ []
-      → IsRow ps more (members_at sets (length rows)) row.targets → AreRows ps more all
+      → IsRow ps more (length rows) row.targets → AreRows ps more all
   rows_pushed rows row all few are e last =
-      each_more (λ i r. IsRow ps more (members_at more i) r.targets) rows row all e
-      (λ i r at.
-      let lt = slice_get_within rows i r at in
-      subst (λ is. IsRow ps more is r.targets) (sym (longer.same i (omega (arith, lt, few))))
-      (longer_targets ps (members_at sets i) r.targets 128 0 sets more longer (are i r at)))
-      (subst (λ is. IsRow ps more is row.targets) (sym (longer.same (length rows) few)) last)
+      each_more (λ i r. IsRow ps more i r.targets) rows row all e
+      (λ i r at. let lt = slice_get_within rows i r at in longer_row i r.targets (omega (arith, lt, few)) (are i r at)) last
 
   pub ends_pushed : (ends : List Bool) (end : Bool) (all : List Bool) → length ends < length sets → AreEnds ps sets ends → all ≡ ends ++ end ∷ []
       → end ≡ has_number (members_at sets (length ends)) (length ps) → AreEnds ps more all

@@ -1,22 +1,16 @@
 -- A text of which a part is read, and the rest of which is still to be treated.
 use Rattle.std.proofs.Common.{◌≡◌, ◌∙◌, ℕ, List, [], ◌++◌, true, take, drop, refl, sym, ap, subst, append-nil, append_assoc}
 use Rattle.std.specs.List.{list_all}
-use Rattle.std.specs.Str.{IsAscii, IsUtf8, chars}
+use Rattle.std.specs.Str.{IsUtf8, chars}
 use Rattle.std.proofs.lemmas.List.{take-append-drop}
-use Rattle.std.proofs.lemmas.Str.{chars-append, chars-nil, chars-IsAscii, IsUtf8-from_ascii}
+use Rattle.std.proofs.lemmas.Str.{chars-append, chars-nil}
 use Rattle.rng_model.specs.plain.BlankRuns.{is_run_byte}
 use Rattle.xsd_automaton.specs.declared.white_space.WhiteSpace.{WhiteSpace}
 use Rattle.xsd_automaton.specs.declared.white_space.WhiteSpace.TheVariants as white_space
-use Rattle.xsd_automaton.specs.plain.ReadParts.{IsRead, IsRun}
+use Rattle.xsd_automaton.specs.plain.ReadParts.{IsRead}
 use Rattle.xsd_automaton.specs.views.WhiteSpace.{left_by}
 use Rattle.xsd_automaton.proofs.TreatedParts.{replaced_run}
 use Rattle.rng_types.proofs.CollapsedBytes.{run_then}
-
--- characters of ASCII in front of a text are spelled by themselves
-pub ascii_front : (s : List ℕ) (n : ℕ) → IsAscii (take n s) → chars s ≡ take n s ++ chars (drop n s)
-ascii_front s n ascii =
-    ap chars (sym (take-append-drop n s)) ∙ chars-append (take n s) (drop n s) (IsUtf8-from_ascii (take n s) ascii)
-    ∙ ap (λ t. t ++ chars (drop n s)) (chars-IsAscii (take n s) ascii)
 
 -- a run in front stays as it is
 left_run : (kind : WhiteSpace) (run rest : List ℕ) → list_all is_run_byte run ≡ true → left_by kind (run ++ rest) ≡ run ++ left_by kind rest
@@ -41,9 +35,10 @@ ends Leads whole left e is =
     subst Leads (sym (is.parts ∙ ap (λ t. is.read ++ chars t) e ∙ ap (λ t. is.read ++ t) chars-nil ∙ append-nil is.read)) is.leads
 
 -- a run is read
-pub past_run : (Leads More : List ℕ → Type 0) (kind : WhiteSpace) (whole s after : List ℕ) (n : ℕ) → IsRun (take n s) → after ≡ drop n s
-    → ((read : List ℕ) → Leads read → More (read ++ take n s)) → IsRead Leads whole (left_by kind s) → IsRead More whole (left_by kind after)
-past_run Leads More kind whole s after n is behind more =
-    goes_on Leads More whole (left_by kind s) (take n s) (left_by kind after) (IsUtf8-from_ascii (take n s) is.ascii)
-    (ap (left_by kind) (sym (take-append-drop n s)) ∙ left_run kind (take n s) (drop n s) is.run ∙ ap (λ t. take n s ++ left_by kind t) (sym behind))
-    (λ read l. subst (λ t. More (read ++ t)) (sym (chars-IsAscii (take n s) is.ascii)) (more read l))
+pub past_run : (Leads More : List ℕ → Type 0) (kind : WhiteSpace) (whole s after : List ℕ) (n : ℕ) → list_all is_run_byte (take n s) ≡ true
+    → IsUtf8 (take n s) → after ≡ drop n s → ((read : List ℕ) → Leads read → More (read ++ chars (take n s))) → IsRead Leads whole (left_by kind s)
+    → IsRead More whole (left_by kind after)
+past_run Leads More kind whole s after n run utf8 behind more =
+    goes_on Leads More whole (left_by kind s) (take n s) (left_by kind after) utf8
+    (ap (left_by kind) (sym (take-append-drop n s)) ∙ left_run kind (take n s) (drop n s) run ∙ ap (λ t. take n s ++ left_by kind t) (sym behind))
+    more

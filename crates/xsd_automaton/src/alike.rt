@@ -1,4 +1,4 @@
-// Characters of ASCII that are in the same classes.
+// Characters that are in the same classes.
 ghost use Rattle.std.specs.Prelude.{◌≡◌, ◌-◌, ℕ, true, false, slice_index_or};
 ghost use Rattle.rng_model.specs.regexes.Expressions.{holds};
 ghost use Rattle.xsd_automaton.specs.plain.Sets.{AreAlikeChars};
@@ -9,11 +9,21 @@ use crate::sets::ASCII;
 use xsd_positions::Positions;
 use xsd_regex::Class;
 
-// whether each character of ASCII is in the same classes as the one before it
+// which characters are in the same classes
+#[derive(Clone, Copy)]
+pub(crate) struct Alike {
+    // whether each character of ASCII is in the same classes as the one before it
+    pub(crate) ascii: [bool; ASCII],
+    // whether all characters past ASCII are in the same classes
+    pub(crate) past: bool,
+}
+
+// Whether each character of ASCII is in the same classes as the one before it. The first one has none before it.
 pub(crate) fn alike_chars(positions: &Positions) -> [bool; ASCII]
     ensures { AreAlikeChars (positions_of positions.now) result }
 {
     let mut alike = [true; ASCII];
+    alike[0] = false;
     for class in &positions.classes {
         mark_changes(class, &mut alike);
     }

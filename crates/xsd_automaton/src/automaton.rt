@@ -18,7 +18,8 @@ use xsd_positions::Positions;
 
 /// An automaton that says which texts an expression matches as a whole.
 ///
-/// It has the positions of the expression, and a table of at most 254 sets of them, which texts of ASCII lead to.
+/// It has the positions of the expression, and a table of at most 1,024 sets of them, which texts lead to. A set takes 513
+/// bytes there.
 #[derive(Drop)]
 pub struct Automaton {
     positions: Positions,
@@ -40,7 +41,9 @@ impl Model for Automaton {
 impl Automaton {
     /// Returns the automaton of an expression with these positions, of which there are at most 12,288.
     ///
-    /// Fails only when out of memory. The cost is linear in the positions, with a bound on what is spent on the table of sets.
+    /// Fails only when out of memory. The cost is linear in the positions, with a bound on what is spent on the table of sets: once
+    /// 1,000,000 positions have been gone through, the row of a set is finished, and it is the last one. A set that is compared
+    /// counts as a quarter of a position.
     pub fn new(alloc: Global, positions: Positions) -> Result<Self, OutOfMemory>
         requires few { length positions.positions.items ≤ 12288 }
         requires are { (r : Regex) × ArePositionsOf r positions.first (positions_of positions) }
@@ -52,8 +55,9 @@ impl Automaton {
 
     /// Returns whether the expression matches the text as a whole.
     ///
-    /// XML Schema Part 2, Second Edition, appendix F. Allocates nothing. A text of ASCII mostly costs one look-up for each
-    /// character, and another text one pass over the positions for each character.
+    /// XML Schema Part 2, Second Edition, appendix F. Allocates nothing. A text mostly costs one look-up for each byte. It costs
+    /// one pass over the positions for each character if it leads to a set that has no row, or if it has a character past
+    /// ASCII and a class of the expression is made of a set that holds some of these characters.
     pub fn accepts(&self, text: &str) -> bool
         ensures { (r : Regex) → ArePositionsOf r self.now.first (positions_of self.now) → IsTrue result ↔ Matches r (chars text.now) }
     {

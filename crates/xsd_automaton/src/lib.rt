@@ -2,14 +2,15 @@
 //! appendix F).
 //!
 //! A text is judged by the positions of the expression, without memory and in one pass. The positions that it may be at
-//! are closed by a work list, each at most once. For texts of ASCII a table has such sets of positions, so that a
-//! character costs one look-up.
+//! are closed by a work list, each at most once. A table has such sets of positions, so that a byte mostly costs one
+//! look-up.
 #![tactic(auto)]
 
 mod alike;
 mod automaton;
 mod closing;
 mod found_sets;
+mod past_ascii;
 mod reached;
 mod sets;
 mod steps;

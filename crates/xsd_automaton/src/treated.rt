@@ -1,24 +1,25 @@
 // Runs over a text with its white space treated, which is never built.
-ghost use Rattle.std.specs.Prelude.{◌≡◌, ◌<◌, ◌≤◌, ◌↔◌, ◌++◌, ℕ, List, IfSome, IsTrue, length, take, true};
-ghost use Rattle.std.specs.Str.{IsUtf8, chars};
+ghost use Rattle.std.specs.Prelude.{◌≡◌, ◌<◌, ◌≤◌, ◌↔◌, ◌++◌, ℕ, List, IfSome, IsTrue, length, take, true, false};
+ghost use Rattle.std.specs.List.{list_all};
+ghost use Rattle.std.specs.Str.{IsCharBoundary, IsUtf8, chars};
 ghost use Rattle.rng_model.specs.regexes.Expressions.{Matches, Regex};
 ghost use Rattle.xsd_regex.specs.plain.Positions.{ArePositionsOf, Position};
 ghost use Rattle.rng_model.specs.plain.BlankRuns.{is_run_byte};
 ghost use Rattle.xsd_automaton.specs.declared.white_space.WhiteSpace.{WhiteSpace};
 ghost use Rattle.xsd_automaton.specs.plain.Closures.{AreWithin, IsClosed, LeadsTo};
-ghost use Rattle.xsd_automaton.specs.plain.ReadParts.{IsRead, IsRun};
+ghost use Rattle.xsd_automaton.specs.plain.ReadParts.{IsRead};
 ghost use Rattle.xsd_positions.specs.views.Positions.{positions_of};
 ghost use Rattle.xsd_automaton.specs.views.Sets.{AreTables, IsSetTable, LeadsToSet};
 ghost use Rattle.xsd_automaton.specs.views.WhiteSpace.{left_by, treated};
 
 use crate::reached::{MOST, Reached};
-use crate::sets::{SetRow, SetTable, is_empty, is_end, row_of, set_behind};
+use crate::sets::{SetRow, SetTable, is_end, next_set, set_behind};
 use crate::steps::{is_at_end, start, step};
 use crate::white_space::{WhiteSpace, begun, next_part};
 use arrayvec::ArrayVec;
 use xsd_positions::Positions;
 
-// Whether the treated text is accepted. The sets say so of a text of ASCII, unless it leads to a set that has no row.
+// Whether the treated text is accepted. The sets say so unless the text leads to one that has no row.
 pub(crate) fn accepts_treated_by_sets(
     sets: &SetTable,
     white_space: WhiteSpace,
@@ -31,10 +32,9 @@ pub(crate) fn accepts_treated_by_sets(
     let mut set = 0;
     let mut rest = begun(white_space, text);
     'runs: loop {
-        let (behind, after) = behind_run(rows, set, rest);
-        if is_empty(behind) {
-            return Some(false);
-        }
+        let Some((behind, after)) = behind_run(rows, set, rest) else {
+            return None;
+        };
         let Some((part, more)) = next_part(white_space, after) else {
             return is_end(sets, behind);
         };
@@ -46,51 +46,51 @@ pub(crate) fn accepts_treated_by_sets(
     }
 }
 
-// The set behind the run of printed characters of ASCII that the text begins with, and the rest of the text. The run ends
-// early at a set that has no row.
+// The set behind the printed characters that the text begins with, and the rest of the text. There is none if they lead to
+// a set that has no row.
 #[inline(always)]
-fn behind_run<'a>(rows: &[SetRow], first: usize, text: &'a str) -> (usize, &'a str)
-    ensures texts { IsUtf8 result.1.now }
-    ensures rest { length result.1.now ≤ length text.now }
-    ensures leads { (ps : List Position) (begin : ℕ) (table : IsSetTable ps begin rows.now) (kind : WhiteSpace) (whole : List ℕ)
+fn behind_run<'a>(rows: &[SetRow], first: usize, text: &'a str) -> Option<(usize, &'a str)>
+    ensures texts { IfSome result (λ r. IsUtf8 r.1.now) }
+    ensures rest { IfSome result (λ r. length r.1.now ≤ length text.now) }
+    ensures leads { IfSome result (λ r. (ps : List Position) (begin : ℕ) (table : IsSetTable ps begin rows.now) (kind : WhiteSpace) (whole : List ℕ)
         → IsRead (LeadsToSet ps begin rows.now table first) whole (left_by kind text.now)
-        → IsRead (LeadsToSet ps begin rows.now table result.0) whole (left_by kind result.1.now) }
+        → IsRead (LeadsToSet ps begin rows.now table r.0) whole (left_by kind r.1.now)) }
 {
-    let (set, len) = run_end(rows, first, text);
+    let Some((set, len)) = run_end(rows, first, text) else {
+        return None;
+    };
     let (_, rest) = text.split_at(len);
-    (set, rest)
+    Some((set, rest))
 }
 
-// the set behind that run, and the length of the run
+// the set behind those characters, and how many bytes they are
 #[inline(always)]
-fn run_end(rows: &[SetRow], first: usize, text: &str) -> (usize, usize)
-    ensures len { result.1 ≤ length text.now }
-    ensures run { IsRun (take result.1 text.now) }
-    ensures leads { (ps : List Position) (begin : ℕ) (table : IsSetTable ps begin rows.now) (read : List ℕ)
-        → LeadsToSet ps begin rows.now table first read → LeadsToSet ps begin rows.now table result.0 (read ++ take result.1 text.now) }
+fn run_end(rows: &[SetRow], first: usize, text: &str) -> Option<(usize, usize)>
+    ensures boundary { IfSome result (λ r. IsCharBoundary text.now r.1) }
+    ensures run { IfSome result (λ r. list_all is_run_byte (take r.1 text.now) ≡ true) }
+    ensures leads { IfSome result (λ r. (ps : List Position) (begin : ℕ) (table : IsSetTable ps begin rows.now) (read : List ℕ)
+        → LeadsToSet ps begin rows.now table first read → LeadsToSet ps begin rows.now table r.0 (read ++ chars (take r.1 text.now))) }
 {
     let mut set = first;
     for (len, byte) in text.as_bytes().iter().enumerate() {
         if !is_printed(*byte) {
-            return (set, len);
+            return Some((set, len));
         }
-        let Some(row) = row_of(rows, set) else {
-            return (set, len);
+        let Some(next) = next_set(rows, set, *byte) else {
+            return None;
         };
-        let Some(target) = row.target(*byte) else {
-            return (set, len);
-        };
-        set = usize::from(target);
+        set = next;
     }
-    (set, text.len())
+    Some((set, text.len()))
 }
 
-// whether the byte is a printed character of ASCII, which is no blank
+// whether the byte is no blank, and no other character of ASCII below the printed ones
 #[inline(always)]
 fn is_printed(byte: u8) -> bool
-    ensures { IsTrue result → (is_run_byte byte ≡ true) × (byte < 128) }
+    ensures run { IsTrue result → is_run_byte byte ≡ true }
+    ensures ascii { result ≡ false → byte < 128 }
 {
-    b' ' < byte && byte < 128
+    b' ' < byte
 }
 
 // whether the positions accept the treated text

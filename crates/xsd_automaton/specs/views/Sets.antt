@@ -5,11 +5,11 @@ use Rattle.xsd_automaton.specs.declared.found_sets.FoundSets.{FoundSets}
 use Rattle.xsd_regex.specs.plain.Positions.{Position}
 use Rattle.xsd_automaton.specs.declared.sets.SetRow.{SetRow}
 use Rattle.xsd_automaton.specs.plain.Closures.{LeadsTo}
-use Rattle.xsd_automaton.specs.plain.Sets.{empty_set, members_at, AreEnds, AreSets, IsRow}
+use Rattle.xsd_automaton.specs.plain.Sets.{members_at, AreEnds, AreSets, IsRow}
 
 -- the first sets have rows
 abbrev pub AreRows : List Position → List (List ℕ) → List SetRow → Type 0
-AreRows ps sets rows = (i : ℕ) (row : SetRow) → slice_get rows i ≡ Some row → IsRow ps sets (members_at sets i) row.targets
+AreRows ps sets rows = (i : ℕ) (row : SetRow) → slice_get rows i ≡ Some row → IsRow ps sets i row.targets
 
 -- The first set is what the first position leads to. Where no set has a row, the positions serve.
 pub record IsSetTable (ps : List Position) (first : ℕ) (rows : List SetRow) : Type 0 where
@@ -31,7 +31,6 @@ lists_of vs = map (λ v. v.items) vs
 abbrev pub sets_of : FoundSets → List (List ℕ)
 sets_of f = lists_of f.sets.items
 
--- the text so far leads to the set, if the set has a row or no positions
+-- the text so far leads to the set, if the set has a row
 pub record LeadsToSet (ps : List Position) (first : ℕ) (rows : List SetRow) (table : IsSetTable ps first rows) (set : ℕ) (read : List ℕ) : Type 0 where
   pub row : set < length rows → LeadsTo ps first read (members_at table.sets set)
-  pub empty : set ≡ empty_set → LeadsTo ps first read []

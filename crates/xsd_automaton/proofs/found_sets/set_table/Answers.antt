@@ -36,7 +36,7 @@ rows-preserved c =
           c.in_ok-push.ensures.items end;
       rows =
           rows_pushed ps old new longer c.rows.rows.items c.in_ok-row.row c.push-in-rows.new.self.items few c.rows.invariant.rows
-          c.in_ok-push-2.ensures.items (subst (λ n. IsRow ps new (members_at old n) c.in_ok-row.row.targets) set c.in_ok-row.ensures.row);
+          c.in_ok-push-2.ensures.items (subst (λ n. IsRow ps new n c.in_ok-row.row.targets) set c.in_ok-row.ensures.row);
     }
 
 pub returns : goal.returns

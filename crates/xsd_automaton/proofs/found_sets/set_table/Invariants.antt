@@ -16,4 +16,4 @@ invariant-rows l = record {
 }
 
 abbrev pub decreases-rows : goal.decreases-rows
-decreases-rows l = 255 - length l.rows.items
+decreases-rows l = 1025 - length l.rows.items

@@ -2,7 +2,7 @@ use Rattle.std.proofs.Common.{◌≡◌, ◌-◌, length}
 use Rattle.xsd_automaton.specs.plain.Sets.{members_at, AreSets, IsLonger, HasTarget, AreTargets}
 use Rattle.xsd_positions.specs.views.Positions.{positions_of}
 use Rattle.xsd_automaton.specs.views.Sets.{sets_of}
-use Rattle.xsd_automaton.proofs.found_sets.FoundSets.row.Given as goal
+use Rattle.xsd_automaton.proofs.found_sets.FoundSets.ascii_targets.Given as goal
 
 abbrev pub invariant-loop-c : goal.invariant-loop-c
 invariant-loop-c l =
