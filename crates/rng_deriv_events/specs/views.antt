@@ -1,6 +1,7 @@
 -- Views of types, and invariants.
 pub mod LevelTable
 pub mod Basis
+pub mod Innermost
 pub mod KeptLevels
 pub mod Levels
 pub mod Numbers

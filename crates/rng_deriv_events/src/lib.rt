@@ -13,6 +13,7 @@ mod derivatives;
 mod ends;
 mod event_matcher;
 mod held;
+mod innermost;
 mod leaving;
 mod level_renewal;
 mod level_table;
@@ -27,5 +28,6 @@ mod steps;
 
 pub use derivatives::{Derivatives, StartWay};
 pub use event_matcher::EventMatcher;
+pub use innermost::Innermost;
 pub use lists::Ways;
 pub use progress::Progress;

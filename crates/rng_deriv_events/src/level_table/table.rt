@@ -167,6 +167,16 @@ impl LevelTable {
         self.level(number).numbers.as_slice()
     }
 
+    /// Returns the alternatives of the level with this number, or none if there is no such level.
+    pub fn numbers_at(&self, number: LevelNumber) -> &[PatternNumber]
+        ensures { result.now ≡ numbers_in (levels_in self.now) number.0 }
+    {
+        match found_at(self.levels.as_slice(), number.0) {
+            Some(level) => level.numbers.as_slice(),
+            None => &[],
+        }
+    }
+
     /// Returns the number of the level of these alternatives, if there is one.
     #[inline(always)]
     pub fn find(&self, numbers: &[PatternNumber]) -> Option<LevelNumber>

@@ -1,0 +1,4 @@
+pub mod Expectations
+pub mod Laws
+pub mod plain
+pub mod views

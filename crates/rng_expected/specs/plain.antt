@@ -1,0 +1,3 @@
+-- Plain functions, for proofs.
+pub mod Leaves
+pub mod Nexts

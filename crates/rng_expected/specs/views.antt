@@ -1,0 +1,2 @@
+-- Views of types, and invariants.
+pub mod Next

@@ -1,0 +1,22 @@
+-- What may come next, without its place in memory.
+use Rattle.std.specs.Prelude.{ℕ, List, map, string_bytes}
+use Rattle.std.proofs.Common.{Bor}
+use Rattle.rng_model.specs.datatypes.DatatypeViews.{datatype_of}
+use Rattle.rng_model.specs.names.NameViews.{class_of}
+use Rattle.rng_model.specs.schema.Patterns.{without_parameters}
+use Rattle.rng_model.specs.simple.Tree.{Datatype}
+use Rattle.rng_model.specs.declared.datatype.DatatypeValue.{DatatypeValue}
+use Rattle.rng_expected.specs.Expectations.{Next}
+use Rattle.rng_expected.specs.declared.next.Expected.{Expected}
+
+-- a value: its datatype, and its text
+abbrev pub value_of : Bor DatatypeValue → Datatype × List ℕ
+value_of v = (without_parameters (string_bytes v.now.library) (string_bytes v.now.name), string_bytes v.now.text)
+
+abbrev pub next_of : Expected → Next
+next_of e = record {
+  elements = map (λ c. class_of c.now) e.elements.items;
+  text = e.text;
+  values = map value_of e.values.items;
+  datatypes = map (λ d. datatype_of d.now) e.datatypes.items;
+}
