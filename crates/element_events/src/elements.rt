@@ -1,5 +1,5 @@
 // The checker of calls.
-ghost use Rattle.std.specs.Prelude.{◌≡◌, ℕ, [], List, OnOk, IfErr, IfSome, IfNone, IsErrOf, Some, None, Err};
+ghost use Rattle.std.specs.Prelude.{◌≡◌, ℕ, [], List, OnOk, IfErr, IfSome, IfNone, IsErrOf, Some, None, Err, unwrap_or};
 ghost use Rattle.rng_model.specs.documents.EventViews.{Hands};
 ghost use Rattle.rng_model.specs.documents.PyxTrees.{Event, a_string, an_end};
 ghost use Rattle.rng_model.specs.documents.Telling.{BeginsDocument};
@@ -129,6 +129,19 @@ impl ElementEvents {
                 Err(fault)
             }
         }
+    }
+
+    /// Refuses a call that the caller cannot make: `EventFault::NotWellFormed` if no document has it, as one whose bytes are
+    /// no text, or `EventFault::Memory`.
+    ///
+    /// Returns the error of every later call. It is this one, unless a call has failed before. Allocates nothing.
+    pub fn refuse(&mut self, fault: EventFault) -> EventFault
+        ensures fault { result ≡ unwrap_or self.old.fault fault }
+        ensures kept { self.new.fault ≡ Some result }
+    {
+        let fault = self.fault.unwrap_or(fault);
+        self.fault = Some(fault);
+        fault
     }
 
     /// Ends the calls.

@@ -12,6 +12,9 @@ use Rattle.rng_deriv.proofs.matcher_state.MatcherState.TheSendSync as state
 use Rattle.rncv_validator.proofs.fault.DocumentFault.TheSendSync as fault
 use Rattle.rncv_validator.specs.contracts.validator.Validator as Validator
 use Rattle.rncv_validator.specs.contracts.document.Document as Document
+use Rattle.element_events.proofs.elements.ElementEvents.TheSendSync as elements
+use Rattle.element_events.proofs.fault.EventFault.TheSendSync as event_fault
+use Rattle.rncv_events.specs.contracts.document.EventDocument as EventDocument
 use Rattle.rng_model.specs.contracts.name.NameClass as NameClass
 use Rattle.rng_model.specs.contracts.simple.Simple as Simple
 use Rattle.rng_model.specs.contracts.grammar.SimpleGrammar as SimpleGrammar
@@ -45,3 +48,6 @@ validator_send = search (sendable, crosses, grammar_send, grammar_sync, state.th
 
 pub document_send : IsSend Document.the_row
 document_send = search (sendable, crosses, grammar_send, grammar_sync, reader.the_send, state.the_send, fault.the_send) depth 20
+
+pub events_send : IsSend EventDocument.the_row
+events_send = search (sendable, crosses, grammar_send, grammar_sync, elements.the_send, state.the_send, event_fault.the_send) depth 20

@@ -1,6 +1,8 @@
 -- What handles hold, and what calls on them return.
+pub mod Attributes
 pub mod Calls
 pub mod Datatypes
+pub mod Events
 pub mod Files
 pub mod Handles
 pub mod Held

@@ -1,4 +1,4 @@
-// Calls on a handle with a document.
+// Calls on a handle with a document in PYX.
 ghost use Rattle.std.specs.Prelude.{◌≡◌, ◌≢◌, ◌↔◌, [], IfErr, IfNone, IfOk, IfSome, IsSomeAnd, OnSome};
 ghost use Rattle.std.specs.declared.option.Option.TheVariants.{None, Some};
 ghost use Rattle.rncv_c.specs.views.Calls.{HasBegun, HasEnded, HasTaken, IsEndOf, IsInvalidSince, status_of_end, told_at_end};
@@ -50,7 +50,7 @@ fn begun(held: Held, alloc: Global) -> (Held, Status)
 }
 
 /// Returns the validator of a schema, or of a document that is dropped.
-fn validator_in(held: Held) -> Validator
+pub fn validator_in(held: Held) -> Validator
     ensures { grammar_in (Some held) ≡ Some result }
 {
     match held {
@@ -59,12 +59,16 @@ fn validator_in(held: Held) -> Validator
             let (validator, _) = document.finish();
             validator
         }
+        Held::Events(document) => {
+            let (validator, _) = document.finish();
+            validator
+        }
     }
 }
 
 /// Passes the next piece to the document.
 ///
-/// Returns `Misuse` exactly if no document is begun; otherwise the status of `Document::feed`. One pass over the piece.
+/// Returns `Misuse` exactly if no document in PYX is begun; otherwise the status of `Document::feed`. One pass over the piece.
 pub fn feed(alloc: Global, schema: &mut Handle, bytes: &[u8]) -> Status
     ensures taken { IfSome (document_in schema.old.held) (λ d. IsSomeAnd (document_in schema.new.held) (HasTaken bytes.now (code_of result) d)) }
     ensures misuse { (result ≡ Status.Misuse) ↔ (document_in schema.old.held ≡ None) }
@@ -79,7 +83,7 @@ pub fn feed(alloc: Global, schema: &mut Handle, bytes: &[u8]) -> Status
             Err(DocumentFault::Malformed { .. }) => Status::Malformed,
             Err(DocumentFault::Memory) => Status::Memory,
         },
-        Held::Schema(_) => Status::Misuse,
+        Held::Schema(_) | Held::Events(_) => Status::Misuse,
     };
     schema.put(held);
     status
@@ -89,7 +93,7 @@ pub fn feed(alloc: Global, schema: &mut Handle, bytes: &[u8]) -> Status
 /// were fed. A start tag with a name that no element of the schema's simple form may have makes it known at the end of
 /// the line after the tag, unless there was a fault.
 ///
-/// Fails with `Misuse` exactly if no document is begun. Allocates nothing.
+/// Fails with `Misuse` exactly if no document in PYX is begun. Allocates nothing.
 pub fn invalid_since(alloc: Global, schema: &mut Handle) -> Result<u64, Status>
     ensures value { IfOk result (λ line. IsSomeAnd (document_in schema.old.held) (IsInvalidSince line)) }
     ensures misuse { IfErr result (λ status. (status ≡ Status.Misuse) × (document_in schema.old.held ≡ None)) }
@@ -100,7 +104,7 @@ pub fn invalid_since(alloc: Global, schema: &mut Handle) -> Result<u64, Status>
     };
     let line = match held.as_ref() {
         Held::Document(document) => Ok(hopeless_line(document)),
-        Held::Schema(_) => Err(Status::Misuse),
+        Held::Schema(_) | Held::Events(_) => Err(Status::Misuse),
     };
     schema.put(held);
     line
@@ -113,15 +117,15 @@ fn hopeless_line(document: &Document) -> u64
     document.invalid_since().unwrap_or(0)
 }
 
-/// Ends the document, and reports the verdict on it in `told`. Then the handle holds the schema.
+/// Ends the document in PYX, and reports the verdict on it in `told`. Then the handle holds the schema.
 ///
-/// Returns `Misuse` exactly if no document is begun. Returns `Memory` when out of memory, and then the document has
+/// Returns `Misuse` exactly if no document in PYX is begun. Returns `Memory` when out of memory, and then the document has
 /// ended too. Costs what `Document::finish` costs.
 pub fn end(alloc: Global, schema: &mut Handle, told: &mut Judgement) -> Status
     ensures ended { IfSome (document_in schema.old.held) (λ d. HasEnded d (code_of result) told.old told.new) }
     ensures misuse { (result ≡ Status.Misuse) ↔ (document_in schema.old.held ≡ None) }
     ensures failed { result ≡ Status.Misuse → (schema.new.held ≡ schema.old.held) × (told.new ≡ told.old) }
-    ensures kept { schema_in schema.new.held ≡ grammar_in schema.old.held }
+    ensures kept { result ≢ Status.Misuse → schema_in schema.new.held ≡ grammar_in schema.old.held }
 {
     let Some(mut held) = schema.take(alloc) else {
         return Status::Misuse;
@@ -134,13 +138,13 @@ pub fn end(alloc: Global, schema: &mut Handle, told: &mut Judgement) -> Status
     }
 }
 
-/// Returns the schema of a document that has ended, and what `Document::finish` returns. If what is held is no
-/// document, returns it.
+/// Returns the schema of a document in PYX that has ended, and what `Document::finish` returns. If what is held is no
+/// such document, returns it.
 fn ended(held: Held, _nothing: ()) -> (Held, Option<Result<Verdict, OutOfMemory>>)
     ensures ended { IfSome (document_in (Some held)) (λ d. IsSomeAnd result.1 (IsEndOf d)) }
     ensures none { IfNone result.1 ((document_in (Some held) ≡ None) × (result.0 ≡ held)) }
     ensures some { OnSome result.1 (document_in (Some held) ≢ None) }
-    ensures kept { schema_in (Some result.0) ≡ grammar_in (Some held) }
+    ensures kept { OnSome result.1 (schema_in (Some result.0) ≡ grammar_in (Some held)) }
 {
     match held {
         Held::Document(document) => {
@@ -148,6 +152,7 @@ fn ended(held: Held, _nothing: ()) -> (Held, Option<Result<Verdict, OutOfMemory>
             (Held::Schema(validator), Some(answer))
         }
         Held::Schema(validator) => (Held::Schema(validator), None),
+        Held::Events(document) => (Held::Events(document), None),
     }
 }
 

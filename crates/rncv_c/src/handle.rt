@@ -8,6 +8,7 @@ ghost use Rattle.rncv_c.specs.declared.handle.Held.{Held};
 mod parts;
 
 use parts::Parts;
+use rncv_events::EventDocument;
 use rncv_validator::{Document, Validator};
 use std::alloc::Global;
 use std::marker::Model;
@@ -19,8 +20,10 @@ use std::ptr::null_mut;
 pub enum Held {
     /// A schema, with no document begun.
     Schema(Validator),
-    /// A document that is begun.
+    /// A document in PYX that is begun.
     Document(Document),
+    /// A document of events that is begun.
+    Events(EventDocument),
 }
 
 /// A handle as C has it: a struct with one pointer, which is null if the handle holds nothing.

@@ -1,25 +1,31 @@
 //! The validator for C, as `rncv.h` declares it.
 //!
-//! A handle of C holds nothing, or a schema, or a document in progress. Each function here is one call, and returns its
+//! A handle of C holds nothing, or a schema, or a document in progress, in PYX or of events. Each function here is one call, and returns its
 //! status as a number. A call on a handle that does not hold what the call needs returns a status too. The numbers are
 //! those of `code_of`.
 #![tactic(auto)]
 
-ghost use Rattle.std.specs.Prelude.{◌≡◌, ◌≢◌, ◌↔◌, pos, IfSome, IsSome, IsSomeAnd};
+ghost use Rattle.std.specs.Prelude.{◌≡◌, ◌≢◌, ◌↔◌, pos, IfSome, IsSome, IsSomeAnd, IsUtf8, ⊤};
 ghost use Rattle.std.specs.declared.option.Option.TheVariants.{None};
 ghost use Rattle.rnc_model.specs.loading.DatatypePlaces.{HasBrokenDatatype};
 ghost use Rattle.rnc_model.specs.loading.SchemaFile.{FileName};
+ghost use Rattle.rng_model.specs.documents.PyxTrees.{a_string, an_end};
+ghost use Rattle.element_events.specs.views.Told.{call};
 ghost use Rattle.rncv_validator.specs.views.Validators.{IsOneFor, IsOneForWith};
+ghost use Rattle.rncv_c.specs.views.Attributes.{AreTexts, name_in, start_of};
 ghost use Rattle.rncv_c.specs.views.Calls.{HasBegun, HasEnded, HasTaken, IsInvalidSince};
 ghost use Rattle.rncv_c.specs.views.Datatypes.{set_of};
+ghost use Rattle.rncv_c.specs.views.Events as of_events;
 ghost use Rattle.rncv_c.specs.views.Files.{AreNamed, files_of, main_of};
-ghost use Rattle.rncv_c.specs.views.Held.{document_in, grammar_in, schema_in};
+ghost use Rattle.rncv_c.specs.views.Held.{document_in, events_in, grammar_in, schema_in};
 ghost use Rattle.rncv_c.specs.views.Mentions.{AreMentionsOf, IsRefusedAlone};
 ghost use Rattle.rncv_c.specs.views.Texts.{IsTextOf, IsTooLong, IsWritten};
 ghost use Rattle.rncv_c.specs.views.Told.{AreRefused, AreRefusedWith, IsPlaceOfDatatype, IsRefusedName};
 
+mod attributes;
 mod datatypes;
 mod documents;
+mod events;
 mod files;
 mod handle;
 mod mentions;
@@ -29,6 +35,7 @@ mod status;
 mod texts;
 mod told;
 
+use attributes::{AttributeBytes, NameBytes};
 use datatypes::set_of_number;
 use files::SchemaFile;
 use handle::Handle;
@@ -200,9 +207,9 @@ pub extern "C" fn rncv_document_begin(alloc: Global, schema: &mut Handle) -> i32
     documents::begin(alloc, schema).code()
 }
 
-/// Passes the next piece of the document, of any length.
+/// Passes the next piece of the document in PYX, of any length.
 ///
-/// Returns 0 on success; 2 if the document breaks a clause; 3 when out of memory; 4 exactly if no document is begun.
+/// Returns 0 on success; 2 if the document breaks a clause; 3 when out of memory; 4 exactly if no document in PYX is begun.
 /// After 2 or 3, every later call of this function for the document returns the same. One pass over the piece.
 #[unsafe(no_mangle)]
 pub extern "C" fn rncv_document_feed(alloc: Global, schema: &mut Handle, bytes: &[u8]) -> i32
@@ -216,7 +223,7 @@ pub extern "C" fn rncv_document_feed(alloc: Global, schema: &mut Handle, bytes: 
 /// Reports in `line` the line after which no continuation is valid, counted from 1, or 0 as long as it is not known. It
 /// is one of the lines that were fed.
 ///
-/// Returns 0 on success; 4 exactly if no document is begun. Allocates nothing.
+/// Returns 0 on success; 4 exactly if no document in PYX is begun. Allocates nothing.
 #[unsafe(no_mangle)]
 pub extern "C" fn rncv_document_invalid_since(
     alloc: Global,
@@ -238,11 +245,11 @@ pub extern "C" fn rncv_document_invalid_since(
     }
 }
 
-/// Ends the document, and reports the verdict on it in `verdict`. Then the handle holds the schema, with what is known
+/// Ends the document in PYX, and reports the verdict on it in `verdict`. Then the handle holds the schema, with what is known
 /// of it.
 ///
 /// Returns 0 on success; 3 when out of memory, and then the document has ended without a verdict; 4 exactly if no
-/// document is begun. Costs what `Document::finish` costs.
+/// document in PYX is begun. Costs what `Document::finish` costs.
 #[unsafe(no_mangle)]
 pub extern "C" fn rncv_document_end(
     alloc: Global,
@@ -252,9 +259,120 @@ pub extern "C" fn rncv_document_end(
     ensures ended { IfSome (document_in schema.old.held) (λ d. HasEnded d result verdict.old verdict.new) }
     ensures misuse { (result ≡ pos 4) ↔ (document_in schema.old.held ≡ None) }
     ensures failed { result ≡ pos 4 → (schema.new.held ≡ schema.old.held) × (verdict.new ≡ verdict.old) }
-    ensures kept { schema_in schema.new.held ≡ grammar_in schema.old.held }
+    ensures kept { result ≢ pos 4 → schema_in schema.new.held ≡ grammar_in schema.old.held }
 {
     documents::end(alloc, schema, verdict).code()
+}
+
+/// Begins a document of events by the schema of the handle. If a document is begun already, it is dropped, and what is
+/// known of the schema is kept.
+///
+/// Returns 0 on success; 3 when out of memory, and then no document is begun; 4 exactly if the handle holds no schema.
+/// Costs what `EventDocument::new` costs, and if a document is dropped what its end costs. RELAX NG Specification,
+/// section 6.
+#[unsafe(no_mangle)]
+pub extern "C" fn rncv_events_begin(alloc: Global, schema: &mut Handle) -> i32
+    ensures done { result ≡ pos 0 → IsSomeAnd (events_in schema.new.held) of_events.HasBegun }
+    ensures memory { result ≡ pos 3 → schema_in schema.new.held ≡ grammar_in schema.old.held }
+    ensures misuse { (result ≡ pos 4) ↔ (grammar_in schema.old.held ≡ None) }
+    ensures others { result ≢ pos 0 → result ≢ pos 4 → result ≡ pos 3 }
+    ensures kept { grammar_in schema.new.held ≡ grammar_in schema.old.held }
+{
+    events::begin(alloc, schema).code()
+}
+
+/// Passes the start of an element, with a place that the caller chooses.
+///
+/// Returns 0 on success; 2 if no document begins with the calls so far, also if a text is not UTF-8; 3 when out of memory;
+/// 4 exactly if no document of events is begun. After 2 or 3, every later call that passes a part of the document returns
+/// the same. Costs what `EventDocument::start` costs, and a list of the attributes. RELAX NG Specification, section 2.
+#[unsafe(no_mangle)]
+pub extern "C" fn rncv_events_start(
+    alloc: Global,
+    schema: &mut Handle,
+    place: u64,
+    uri: &[u8],
+    local: &[u8],
+    attributes: &[AttributeBytes<'_>],
+) -> i32
+    ensures taken { IfSome (events_in schema.old.held) (λ d. IsSomeAnd (events_in schema.new.held)
+        (of_events.HasTaken (AreTexts (name_in uri.now local.now) attributes.now) (call place (start_of (name_in uri.now local.now) attributes.now)) result d)) }
+    ensures misuse { (result ≡ pos 4) ↔ (events_in schema.old.held ≡ None) }
+    ensures failed { result ≡ pos 4 → schema.new.held ≡ schema.old.held }
+{
+    events::start(alloc, schema, place, NameBytes { uri, local }, attributes).code()
+}
+
+/// Passes a text of the document. Texts that follow each other are one string, which has the place of the start or the end
+/// behind it.
+///
+/// Returns what `rncv_events_start` returns. One pass over the text. RELAX NG Specification, section 2.
+#[unsafe(no_mangle)]
+pub extern "C" fn rncv_events_text(alloc: Global, schema: &mut Handle, bytes: &[u8]) -> i32
+    ensures taken { IfSome (events_in schema.old.held) (λ d. IsSomeAnd (events_in schema.new.held)
+        (of_events.HasTakenAnywhere (IsUtf8 bytes.now) (a_string bytes.now) result d)) }
+    ensures misuse { (result ≡ pos 4) ↔ (events_in schema.old.held ≡ None) }
+    ensures failed { result ≡ pos 4 → schema.new.held ≡ schema.old.held }
+{
+    events::text(alloc, schema, bytes).code()
+}
+
+/// Passes the end of the innermost element, with a place that the caller chooses.
+///
+/// Returns what `rncv_events_start` returns. RELAX NG Specification, section 2.
+#[unsafe(no_mangle)]
+pub extern "C" fn rncv_events_end(alloc: Global, schema: &mut Handle, place: u64) -> i32
+    ensures taken { IfSome (events_in schema.old.held) (λ d. IsSomeAnd (events_in schema.new.held)
+        (of_events.HasTaken ⊤ (call place an_end) result d)) }
+    ensures misuse { (result ≡ pos 4) ↔ (events_in schema.old.held ≡ None) }
+    ensures failed { result ≡ pos 4 → schema.new.held ≡ schema.old.held }
+{
+    events::end(alloc, schema, place).code()
+}
+
+/// Reports in `place` the place of the start or the end after which no continuation is valid, or 0 as long as it is not
+/// known.
+///
+/// Returns 0 on success; 4 exactly if no document of events is begun. Allocates nothing. RELAX NG Specification, sections
+/// 6.2 and 6.3.
+#[unsafe(no_mangle)]
+pub extern "C" fn rncv_events_invalid_since(
+    alloc: Global,
+    schema: &mut Handle,
+    place: &mut u64,
+) -> i32
+    ensures done { IfSome (events_in schema.old.held) (of_events.IsInvalidSince place.new) }
+    ensures misuse { (result ≡ pos 4) ↔ (events_in schema.old.held ≡ None) }
+    ensures others { result ≢ pos 4 → result ≡ pos 0 }
+    ensures untold { result ≢ pos 0 → place.new ≡ place.old }
+    ensures kept { schema.new.held ≡ schema.old.held }
+{
+    match events::invalid_since(alloc, schema) {
+        Ok(since) => {
+            *place = since;
+            Status::Done.code()
+        }
+        Err(status) => status.code(),
+    }
+}
+
+/// Ends the document of events, and reports the verdict on it in `verdict`. Then the handle holds the schema, with what is
+/// known of it.
+///
+/// Returns 0 on success; 3 if a call for the document returned it, and then the document has ended without a verdict; 4
+/// exactly if no document of events is begun. Costs what `EventDocument::finish` costs. RELAX NG Specification, section 6.
+#[unsafe(no_mangle)]
+pub extern "C" fn rncv_events_finish(
+    alloc: Global,
+    schema: &mut Handle,
+    verdict: &mut Judgement,
+) -> i32
+    ensures ended { IfSome (events_in schema.old.held) (λ d. of_events.HasEnded d result verdict.old verdict.new) }
+    ensures misuse { (result ≡ pos 4) ↔ (events_in schema.old.held ≡ None) }
+    ensures failed { result ≡ pos 4 → (schema.new.held ≡ schema.old.held) × (verdict.new ≡ verdict.old) }
+    ensures kept { result ≢ pos 4 → schema_in schema.new.held ≡ grammar_in schema.old.held }
+{
+    events::finish(alloc, schema, verdict).code()
 }
 
 /// Writes the printed simple form of the schema to the buffer if it fits, and reports its length in `count`.

@@ -160,7 +160,7 @@ fn shared(alloc: Global, schema: &mut Handle) -> Result<Validator, Status>
     };
     let found = match held.as_ref() {
         Held::Schema(validator) => validator.share().map_err(|_| Status::Memory),
-        Held::Document(_) => Err(Status::Misuse),
+        Held::Document(_) | Held::Events(_) => Err(Status::Misuse),
     };
     schema.put(held);
     found
@@ -197,7 +197,7 @@ fn simple_text(alloc: Global, schema: &mut Handle) -> Result<Vec<u8>, Status>
     };
     let text = match held.as_ref() {
         Held::Schema(validator) => validator.simple_text(alloc).map_err(|_| Status::Memory),
-        Held::Document(_) => Err(Status::Misuse),
+        Held::Document(_) | Held::Events(_) => Err(Status::Misuse),
     };
     schema.put(held);
     text

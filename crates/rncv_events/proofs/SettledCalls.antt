@@ -1,6 +1,7 @@
 -- What is kept after a call stands for the calls with this one.
 use Rattle.std.proofs.Common.{◌≡◌, ◌∙◌, ℕ, List, [], ◌∷◌, ◌++◌, Option, Some, None, Result, Ok, Err, IfErr, IfSome, OnOk, refl, sym, ap, subst}
 use Rattle.std.proofs.lemmas.List.{append-nil}
+use Rattle.std.specs.Prelude.{unwrap_or}
 use Rattle.rng_model.specs.documents.EventViews.{Hands}
 use Rattle.rng_model.specs.documents.PyxTrees.{Event}
 use Rattle.rng_model.specs.documents.Telling.{BeginsDocument, NoneBegins}
@@ -15,7 +16,7 @@ use Rattle.rncv_validator.specs.views.FedDocuments.{HasNotRunOut, IsFresh, match
 use Rattle.rncv_validator.proofs.FedDocuments.{gone, grammar_put, kept_put, known_put, of_some, state_put}
 use Rattle.rncv_events.specs.Answers.{IsResult}
 use Rattle.rncv_events.specs.views.Settled.{IsSettled}
-use Rattle.rncv_events.specs.views.Told.{HasTaken, IsFaultOfCalls, IsKeptFault, Judging, Takes, failed_since}
+use Rattle.rncv_events.specs.views.Told.{HasTaken, IsFaultOfCalls, IsKeptFault, IsStuck, Judging, Takes, failed_since}
 use Rattle.rncv_events.proofs.ToldDocuments.{failed_by}
 
 -- ---- no call yet
@@ -73,6 +74,16 @@ fault_of_calls k (Some s) kept f e is = subst (IsFaultOfCalls k) e is
 pub calls_work : (k : Kept) (o : Option MatcherState) (kept : Option EventFault) → kept ≡ None → IsKeptFault k o kept → k.fault ≡ None
 calls_work k None kept e is = absurd (cc)
 calls_work k (Some s) kept e is = subst (IsFaultOfCalls k) e is
+
+pub stuck : (d : Judging) (f : EventFault) → IsFaultOfCalls d.calls (Some f) → IsStuck d f
+stuck d faults.Memory is = tt
+stuck d faults.NotWellFormed is = λ calls c taken. (stuck_result d faults.NotWellFormed is c calls taken, stuck_taken d faults.NotWellFormed is c calls taken)
+
+-- ---- a call that the caller refuses
+
+pub refusal_first : (k : Kept) (o : Option MatcherState) (earlier now : Option EventFault) (f r : EventFault) → earlier ≡ None → earlier ≡ now
+    → IsKeptFault k o earlier → r ≡ unwrap_or k.fault f → r ≡ unwrap_or now f
+refusal_first k o earlier now f r e same is told = told ∙ ap (λ (x : Option EventFault). unwrap_or x f) (calls_work k o earlier e is ∙ sym e ∙ same)
 
 -- ---- a call that hands events to the matcher
 

@@ -1,5 +1,5 @@
 // Documents that are told by calls.
-ghost use Rattle.std.specs.Prelude.{◌≡◌, [], ◌∷◌, ◌++◌, ℕ, List, IfErr, IfOk, IfSome, IsErrOf, OnOk, Some, None, Err};
+ghost use Rattle.std.specs.Prelude.{◌≡◌, [], ◌∷◌, ◌++◌, ℕ, List, IfErr, IfOk, IfSome, IsErrOf, OnOk, Some, None, Err, unwrap_or};
 ghost use Rattle.rng_model.specs.schema.Schema.{Schema};
 ghost use Rattle.rng_model.specs.xsd.SchemasWith.{IsValidBySchemaWith};
 ghost use Rattle.rng_model.specs.declared.type_set.TypeSet.{TypeSet};
@@ -9,7 +9,7 @@ ghost use Rattle.rncv_validator.specs.views.Validators.{JudgesWith};
 ghost use Rattle.element_events.specs.views.Kept.{UnlessOutOfMemory};
 ghost use Rattle.element_events.specs.views.Told.{call, start_told};
 ghost use Rattle.rncv_events.specs.Answers.{AreHopelessFrom, IsAnswer, IsResult, KnowsStarts};
-ghost use Rattle.rncv_events.specs.views.Told.{HasTaken, Takes, answer_by, failed_since};
+ghost use Rattle.rncv_events.specs.views.Told.{HasTaken, IsStuck, Takes, answer_by, failed_since};
 
 use crate::settling::settle;
 use element_events::{Attribute, ElementEvents, EventFault, ExpandedName};
@@ -156,6 +156,34 @@ impl EventDocument {
         let mut matcher = Matcher::resume(self.alloc, &self.grammar, state);
         let answer = self.calls.end(place, &mut matcher);
         settle(answer, matcher, &mut self.state, &mut self.fault)
+    }
+
+    /// Refuses a call that the caller cannot make: `EventFault::NotWellFormed` if no document has it, as one whose bytes are
+    /// no text, or `EventFault::Memory`.
+    ///
+    /// Returns the error of every later call, also of `finish`. It is this one, unless a call has failed before. Allocates
+    /// nothing.
+    pub fn refuse(&mut self, fault: EventFault) -> EventFault
+        ensures grammar { self.new.grammar ≡ self.old.grammar }
+        ensures fault { result ≡ unwrap_or self.old.fault fault }
+        ensures kept { self.new.fault ≡ Some result }
+        ensures sticky { IfSome self.old.fault (λ _. self.new ≡ self.old) }
+        ensures stuck { IfSome self.old.fault (IsStuck self.old) }
+        ensures since { failed_since self.new ≡ failed_since self.old }
+    {
+        if let Some(fault) = self.fault {
+            return fault;
+        }
+        let fault = self.calls.refuse(fault);
+        self.fault = Some(fault);
+        fault
+    }
+
+    /// Returns the error that every call returns, if there is one. Allocates nothing.
+    pub fn fault(&self) -> Option<EventFault>
+        ensures { result ≡ self.now.fault }
+    {
+        self.fault
     }
 
     /// Returns the place of the call after which no continuation is valid, once it is known. No document that begins with

@@ -1,6 +1,7 @@
 /* rncv.h: a RELAX NG validator. It compiles a schema once, and then judges documents, one after the other.
  *
- * A schema is a set of files in the RELAX NG Compact Syntax. A document is in PYX, one event a line (docs/use/XML.md says how to make it of XML).
+ * A schema is a set of files in the RELAX NG Compact Syntax. A document is in PYX, one event a line (docs/use/XML.md says how to make it of XML), or it
+ * comes as events: a call for each start, text and end, with names that a parser has expanded (rncv_events_begin).
  *
  *     rncv_schema schema = RNCV_NOTHING;
  *     rncv_fault fault;
@@ -77,10 +78,21 @@ typedef struct rncv_fault {
 /* The verdict on a document. */
 typedef struct rncv_verdict {
     int32_t kind;   /* RNCV_VALID, RNCV_INVALID or RNCV_BROKEN */
-    int32_t clause; /* RNCV_BROKEN: the document breaks the clause P1 to P13 with this number; otherwise 0 */
-    uint64_t line;  /* RNCV_INVALID: the line, from 1, after which no continuation is valid; RNCV_BROKEN: the line of the clause, 0 if the
-                       document has no line; RNCV_VALID: 0 */
+    int32_t clause; /* RNCV_BROKEN: the document breaks the clause P1 to P13 with this number; otherwise, and if it came as events, 0 */
+    uint64_t line;  /* RNCV_INVALID: the line, from 1, after which no continuation is valid, or the place of that event; RNCV_BROKEN: the line of
+                       the clause, 0 if the document has no line or came as events; RNCV_VALID: 0 */
 } rncv_verdict;
+
+/* An attribute of an element that comes as an event: the URI of its namespace, empty if it has none, its local name, and its value. A declaration of a
+ * namespace is not an attribute. No text need end in a zero. The pointers are not NULL, even if the length beside them is 0. */
+typedef struct rncv_attribute {
+    const uint8_t *uri;
+    size_t uri_length;
+    const uint8_t *local;
+    size_t local_length;
+    const uint8_t *value;
+    size_t value_length;
+} rncv_attribute;
 
 /* The kinds of a verdict. */
 enum {
@@ -93,7 +105,7 @@ enum {
 enum {
     RNCV_DONE = 0,      /* the call did what it says */
     RNCV_REFUSED = 1,   /* the files of the schema break a clause; rncv_datatype_place: a file has no place to report */
-    RNCV_MALFORMED = 2, /* the document breaks a clause */
+    RNCV_MALFORMED = 2, /* the document breaks a clause; or it came as events, and no document begins with them */
     RNCV_MEMORY = 3,    /* out of memory */
     RNCV_MISUSE = 4,    /* the handle does not hold what the call needs, or an argument is wrong */
     RNCV_SPACE = 5      /* the buffer is too small */
@@ -173,26 +185,72 @@ void rncv_schema_free(rncv_schema *schema);
  * The handle owns the document until rncv_document_end. Only one thread at a time may use the handle. */
 int32_t rncv_document_begin(rncv_schema *schema);
 
-/* Takes the next bytes of the document. A piece may end anywhere, even inside a line or a character. `bytes` may be NULL if `length` is 0.
+/* Takes the next bytes of the document in PYX. A piece may end anywhere, even inside a line or a character. `bytes` may be NULL if `length` is 0.
  *
  * RNCV_MALFORMED: the document breaks a clause; rncv_document_end says which, and where. RNCV_MEMORY: out of memory, or the document would have
- * 2^63 bytes or more. After one of these two, each later call for this document returns the same. RNCV_MISUSE: no document is in progress.
- * The caller keeps `bytes` and may free them after the call. Only one thread at a time may use the handle. */
+ * 2^63 bytes or more. After one of these two, each later call for this document returns the same. RNCV_MISUSE: no document in PYX is in
+ * progress. The caller keeps `bytes` and may free them after the call. Only one thread at a time may use the handle. */
 int32_t rncv_document_feed(rncv_schema *schema, const uint8_t *bytes, size_t length);
 
 /* Writes to `line` the line, from 1, after which no continuation is valid, or 0 while no such line is known. It is one of the lines that were fed, and
  * no document with the same lines up to it is valid. Once it is known, the verdict of rncv_document_end is RNCV_INVALID with this line, or
  * RNCV_BROKEN, or its status is RNCV_MEMORY. Allocates nothing.
  *
- * RNCV_MISUSE: no document is in progress; `line` is unchanged. Only one thread at a time may use the handle. */
+ * RNCV_MISUSE: no document in PYX is in progress; `line` is unchanged. Only one thread at a time may use the handle. */
 int32_t rncv_document_invalid_since(rncv_schema *schema, uint64_t *line);
 
-/* Ends the document and writes the verdict on it to `verdict`. Then the handle holds the schema, for the next document. The status is RNCV_DONE
+/* Ends the document in PYX and writes the verdict on it to `verdict`. Then the handle holds the schema, for the next document. The status is RNCV_DONE
  * for every verdict.
  *
- * RNCV_MEMORY: memory ran out for the document; it has ended, and `verdict` is unchanged. RNCV_MISUSE: no document is in progress; `verdict` is
- * unchanged. Only one thread at a time may use the handle. */
+ * RNCV_MEMORY: memory ran out for the document; it has ended, and `verdict` is unchanged. RNCV_MISUSE: no document in PYX is in progress; `verdict`
+ * is unchanged. Only one thread at a time may use the handle. */
 int32_t rncv_document_end(rncv_schema *schema, rncv_verdict *verdict);
+
+/* Begins a document that comes as events, and drops a document in progress, of either kind. What was worked out from the schema for earlier documents is
+ * kept, of both kinds, and makes this one cheaper.
+ *
+ * RNCV_MEMORY: out of memory; no document is in progress, and the handle still holds the schema. RNCV_MISUSE: the handle holds nothing.
+ * The handle owns the document until rncv_events_finish. Only one thread at a time may use the handle. */
+int32_t rncv_events_begin(rncv_schema *schema);
+
+/* Takes the start of an element: the URI of its namespace, empty if it has none, its local name, and its `count` attributes, in any order. `place` is a
+ * number that the caller chooses, as a line or an offset. All texts are UTF-8. `uri` may be NULL if `uri_length` is 0, `local` if `local_length` is 0, and
+ * `attributes` if `count` is 0.
+ *
+ * RNCV_MALFORMED: no document begins with the calls so far. A text is not UTF-8, or has a character that XML does not have; a local name is no NCName; two
+ * attributes have the same name; or the root has ended. RNCV_MEMORY: out of memory. After one of these two, each later call of rncv_events_start,
+ * rncv_events_text and rncv_events_end for this document returns the same. RNCV_MISUSE: no document of events is in progress. The caller keeps what it
+ * passes and may free it after the call. Only one thread at a time may use the handle. */
+int32_t rncv_events_start(rncv_schema *schema, uint64_t place, const uint8_t *uri, size_t uri_length, const uint8_t *local, size_t local_length,
+                          const rncv_attribute *attributes, size_t count);
+
+/* Takes a text. It may be empty. Texts that follow each other are one, and it has the place of the start or end behind it. White space outside the root
+ * counts for nothing. `bytes` may be NULL if `length` is 0. A character may not be cut in two.
+ *
+ * RNCV_MALFORMED: no document begins with the calls so far: the text is not UTF-8, has a character that XML does not have, or is outside the root and not
+ * white space. The other statuses, and the rules for the caller, are those of rncv_events_start. */
+int32_t rncv_events_text(rncv_schema *schema, const uint8_t *bytes, size_t length);
+
+/* Takes the end of the innermost element that is open. `place` is a number that the caller chooses.
+ *
+ * RNCV_MALFORMED: no document begins with the calls so far: no element is open. The other statuses, and the rules for the caller, are those of
+ * rncv_events_start. */
+int32_t rncv_events_end(rncv_schema *schema, uint64_t place);
+
+/* Writes to `place` the place of the start or end after which no continuation is valid, or 0 while none is known; so a caller that asks numbers its places
+ * from 1. No document that begins with the calls up to that one is valid. Once it is known, the verdict of rncv_events_finish is RNCV_INVALID with this
+ * place, or RNCV_BROKEN, or its status is RNCV_MEMORY. Allocates nothing.
+ *
+ * RNCV_MISUSE: no document of events is in progress; `place` is unchanged. Only one thread at a time may use the handle. */
+int32_t rncv_events_invalid_since(rncv_schema *schema, uint64_t *place);
+
+/* Ends the document that came as events and writes the verdict on it to `verdict`: RNCV_BROKEN, with 0 and 0, if the calls are no document; RNCV_INVALID
+ * with the place of a start or end, after which no continuation is valid; or RNCV_VALID. Then the handle holds the schema, for the next document. The
+ * status is RNCV_DONE for every verdict.
+ *
+ * RNCV_MEMORY: memory ran out for the document; it has ended, and `verdict` is unchanged. RNCV_MISUSE: no document of events is in progress; `verdict` is
+ * unchanged. Only one thread at a time may use the handle. */
+int32_t rncv_events_finish(rncv_schema *schema, rncv_verdict *verdict);
 
 /* Writes the simple form of the schema, as text, to `buffer`, which has `size` bytes, and the text's length to `length`. The text does not end in
  * a zero. `buffer` may be NULL if `size` is 0. Each call prints the form again.

@@ -31,6 +31,10 @@ class Fault(ctypes.Structure):
     ]
 
 
+class Attribute(ctypes.Structure):
+    _fields_ = [(name, kind) for text in ("uri", "local", "value") for name, kind in ((text, ctypes.c_char_p), (f"{text}_length", ctypes.c_size_t))]
+
+
 class Verdict(ctypes.Structure):
     _fields_ = [("kind", ctypes.c_int32), ("clause", ctypes.c_int32), ("line", ctypes.c_uint64)]
 
@@ -49,6 +53,12 @@ def library(path):
         "rncv_document_feed": [schema, ctypes.c_char_p, size],
         "rncv_document_invalid_since": [schema, ctypes.POINTER(ctypes.c_uint64)],
         "rncv_document_end": [schema, ctypes.POINTER(Verdict)],
+        "rncv_events_begin": [schema],
+        "rncv_events_start": [schema, ctypes.c_uint64, ctypes.c_char_p, size, ctypes.c_char_p, size, ctypes.POINTER(Attribute), size],
+        "rncv_events_text": [schema, ctypes.c_char_p, size],
+        "rncv_events_end": [schema, ctypes.c_uint64],
+        "rncv_events_invalid_since": [schema, ctypes.POINTER(ctypes.c_uint64)],
+        "rncv_events_finish": [schema, ctypes.POINTER(Verdict)],
         "rncv_simple": [schema, ctypes.c_char_p, size, ctypes.POINTER(size)],
     }.items():
         call = getattr(lib, name)

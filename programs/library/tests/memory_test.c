@@ -80,6 +80,57 @@ static int run_once_with_all_types(void) {
     return run_once_with(LARGER, RNCV_DATATYPES_XML_SCHEMA);
 }
 
+/* The start of an element with this attribute, in a namespace of its own. */
+static int32_t start(rncv_schema *schema, uint64_t place, const char *local, const rncv_attribute *attributes, size_t count) {
+    return rncv_events_start(schema, place, (const uint8_t *)"u", 1, (const uint8_t *)local, strlen(local), attributes, count);
+}
+
+/* Tells a document as events. Returns the status of the last call; each call after one that runs out of memory returns RNCV_MEMORY too. */
+static int32_t tell(rncv_schema *schema) {
+    static const uint8_t text[] = "a text";
+    rncv_attribute attributes[20];
+    char names[20][16];
+    for (int i = 0; i < 20; i++) {
+        snprintf(names[i], sizeof names[i], "b%d", i);
+        attributes[i] = (rncv_attribute){text, 1, (const uint8_t *)names[i], strlen(names[i]), text, 6};
+    }
+    int32_t status = start(schema, 1, "a", attributes, 20);
+    for (int i = 0; i < 3; i++) {
+        CHECK(status == RNCV_DONE || status == RNCV_MEMORY);
+        int32_t next = start(schema, 2, "c", attributes, 2);
+        CHECK(status == RNCV_DONE || next == status);
+        status = rncv_events_text(schema, text, 6);
+        CHECK(next == RNCV_DONE || next == status);
+        next = rncv_events_end(schema, 3);
+        CHECK(status == RNCV_DONE || next == status);
+        status = next;
+    }
+    int32_t ended = rncv_events_end(schema, 4);
+    CHECK(status == RNCV_DONE || ended == status);
+    return ended;
+}
+
+/* The same as run_once, for a document of events. */
+static int events_once(void) {
+    rncv_schema schema = RNCV_NOTHING;
+    rncv_verdict verdict = {7, 7, 7};
+    uint64_t place = 99;
+    int32_t status = compile("element * { attribute * { text }*, (element * { attribute * { text }*, text })* }", &schema);
+    for (int turn = 0; turn < 2 && status == RNCV_DONE; turn++) {
+        status = rncv_events_begin(&schema);
+        CHECK(status == RNCV_DONE || rncv_events_end(&schema, 1) == RNCV_MISUSE);
+        if (status == RNCV_DONE) {
+            status = tell(&schema);
+            CHECK(rncv_events_invalid_since(&schema, &place) == RNCV_DONE && place == 0);
+            int32_t ended = rncv_events_finish(&schema, &verdict);
+            CHECK(ended == status && (ended != RNCV_DONE || verdict.kind == RNCV_VALID) && (ended == RNCV_DONE || verdict.kind == 7 || turn > 0));
+        }
+    }
+    CHECK(status == RNCV_DONE || status == RNCV_MEMORY);
+    rncv_schema_free(&schema);
+    return status == RNCV_DONE;
+}
+
 /* Asks for the name of a file that is not there: returns 1 if it is written, 0 if the call ran out of memory. */
 static int name_once(void) {
     rncv_file file = file_of("s.rnc", "include \"parts.rnc\"");
@@ -179,6 +230,28 @@ static void recovers(void) {
     rncv_schema_free(&schema);
 }
 
+/* The same for documents of events. */
+static void events_recover(void) {
+    rncv_schema schema = RNCV_NOTHING;
+    rncv_verdict verdict;
+
+    first = last = -1;
+    CHECK(compile("element * { attribute * { text }*, (element * { attribute * { text }*, text })* }", &schema) == RNCV_DONE);
+    for (long refused = 0; refused < 100; refused++) {
+        growth = 0;
+        first = refused;
+        last = refused + 1000000;
+        if (rncv_events_begin(&schema) == RNCV_DONE) {
+            int32_t status = tell(&schema);
+            CHECK(status == RNCV_DONE || status == RNCV_MEMORY);
+        }
+        first = last = -1;
+        CHECK(rncv_events_begin(&schema) == RNCV_DONE && tell(&schema) == RNCV_DONE);
+        CHECK(rncv_events_finish(&schema, &verdict) == RNCV_DONE && verdict.kind == RNCV_VALID);
+    }
+    rncv_schema_free(&schema);
+}
+
 /* Refuses each growth of a run in turn, and all from one on. Returns how many there are. */
 static long each_growth_of_a_run(int (*once)(void)) {
     growth = 0;
@@ -204,7 +277,9 @@ static long each_growth_of_a_run(int (*once)(void)) {
 int main(void) {
     long count = each_growth_of_a_run(run_once);
     count += each_growth_of_a_run(run_once_with_all_types);
+    count += each_growth_of_a_run(events_once);
     recovers();
+    events_recover();
     each_growth_of(name_once);
     each_growth_of(mentions_once);
     each_growth_of(refusal_once);

@@ -1,7 +1,8 @@
 """Rows of cases through the C library:   rows_test.py librncv.so
 
 For each row of crates/rncv_run_cases, and of the places of datatypes in crates/schema_cases, the library gives the answer in the row. The gate compares the
-programs with the same answers. Documents are fed whole, and then in pieces of 4,096 bytes and of one byte, or of 97 if they are long.
+programs with the same answers. Documents are fed whole, and then in pieces of 4,096 bytes and of one byte, or of 97 if they are long. Those that break no
+clause, or P13 alone, are told as events too.
 """
 
 import ctypes
@@ -10,7 +11,8 @@ import re
 import sys
 import urllib.parse
 
-from library_test import BROKEN, DONE, INVALID, PROFILE, REFUSED, SPACE, XML_SCHEMA, Fault, Schema, Verdict, files_of, library, refused_name
+from library_test import BROKEN, DONE, INVALID, PROFILE, REFUSED, SPACE, XML_SCHEMA, Attribute, Fault, Schema, Verdict, files_of, library, refused_name
+from pyx_events import events_of
 
 CRATES = os.path.abspath(f"{os.path.dirname(__file__)}/../../../crates")
 RUNS, SCHEMAS = "rncv_run_cases", "schema_cases"
@@ -41,6 +43,7 @@ class Program:
 
     def __init__(self, path):
         self.lib = library(path)
+        self.told = 0
 
     def refused(self, files, fault):
         if fault.clause > 8:
@@ -67,9 +70,34 @@ class Program:
         assert self.lib.rncv_document_end(schema, verdict) == DONE
         if since.value:
             assert verdict.kind == BROKEN or (verdict.kind, verdict.line) == (INVALID, since.value), (since.value, verdict.kind, verdict.line)
+        if most >= len(document) and (verdict.kind != BROKEN or verdict.clause == 13):
+            kind, lines = self.verdict_on_events(schema, document)
+            assert kind == verdict.kind and (kind != INVALID or verdict.line in lines), (document, kind, lines, verdict.line)
+            self.told += 1
         if verdict.kind == BROKEN:
             return f"Malformed malformed P{verdict.clause} line {verdict.line}\n"
         return f"Invalid invalid line {verdict.line}\n" if verdict.kind == INVALID else "Good valid\n"
+
+    def verdict_on_events(self, schema, document):
+        """The kind of the verdict on a document that is told as events, and the lines that stand for the place."""
+        verdict, since, places = Verdict(), ctypes.c_uint64(), {}
+        assert self.lib.rncv_events_begin(schema) == DONE
+        for place, (kind, *event) in enumerate(events_of(document), 1):
+            if kind == "text":
+                assert self.lib.rncv_events_text(schema, event[0], len(event[0])) == DONE, event
+                continue
+            places[place] = event[0]
+            if kind == "end":
+                assert self.lib.rncv_events_end(schema, place) == DONE, event
+                continue
+            uri, local, attributes = event[1:]
+            given = (Attribute * len(attributes))(*[sum(((text, len(text)) for text in attribute), ()) for attribute in attributes])
+            assert self.lib.rncv_events_start(schema, place, uri, len(uri), local, len(local), given, len(given)) == DONE, event
+        assert self.lib.rncv_events_invalid_since(schema, since) == DONE
+        assert self.lib.rncv_events_finish(schema, verdict) == DONE
+        if since.value:
+            assert verdict.kind == BROKEN or (verdict.kind, verdict.line) == (INVALID, since.value), (since.value, verdict.kind, verdict.line)
+        return verdict.kind, places.get(verdict.line)
 
     def answer(self, command, files, document):
         schema, fault = Schema(), Fault()
@@ -154,13 +182,13 @@ def row_count():
 
 
 def main():
-    count = 0
-    for place, by_library, answer in answers(Program(sys.argv[1])):
+    count, program = 0, Program(sys.argv[1])
+    for place, by_library, answer in answers(program):
         if by_library != answer:
             sys.exit(f"{place}: {by_library!r}, and not {answer!r}")
         count += 1
     assert count == row_count(), (count, row_count())
-    print(f"rows by the library: {count} as the program answers them")
+    print(f"rows by the library: {count} as the program answers them; {program.told} documents as events")
 
 
 if __name__ == "__main__":

@@ -2,6 +2,7 @@
 use Rattle.std.specs.Prelude.{⊤, ◌≡◌, ℕ, List, [], ◌∷◌, ◌++◌, Option, Some, None, Result, Ok, Err}
 use Rattle.rng_model.specs.simple.Table.{Table}
 use Rattle.rng_model.specs.documents.PyxTrees.{Event}
+use Rattle.rng_model.specs.documents.Telling.{NoneBegins}
 use Rattle.rng_model.specs.declared.fault.OutOfMemory.{OutOfMemory}
 use Rattle.rng_model.specs.declared.outcome.Outcome.{Outcome}
 use Rattle.element_events.specs.views.Kept.{Kept, Stands}
@@ -49,3 +50,9 @@ abbrev pub answer_by : {A : Type 0} → Result A EventFault → Result Outcome O
 answer_by (Ok x) (Ok o) = Ok o
 answer_by (Ok x) (Err e) = Err faults.Memory
 answer_by (Err f) o = Err f
+
+-- After this fault no call is taken: no document begins with the calls that were taken and one more, and what is kept stands for
+-- them too. Out of memory claims nothing.
+abbrev pub IsStuck : Judging → EventFault → Type 0
+IsStuck d faults.Memory = ⊤
+IsStuck d faults.NotWellFormed = (calls : List Event) (c : Event) → HasTaken d calls → NoneBegins (calls ++ c ∷ []) × HasTaken d (calls ++ c ∷ [])

@@ -12,14 +12,14 @@ use Rattle.std.specs.declared.option.Option.{Option}
 use Rattle.std.specs.declared.option.Option.TheVariants.{None, Some}
 use Rattle.std_alloc.proofs.SendSync.{quiet, lies}
 use Rattle.std_heap.proofs.Global.TheSendSync as global
-use Rattle.rncv_c.proofs.Crossing.{document_send, validator_send}
+use Rattle.rncv_c.proofs.Crossing.{document_send, events_send, validator_send}
 use Rattle.rncv_c.specs.views.Handles.{handle_owns}
 use Rattle.rncv_c.specs.contracts.handle.Held as Held
 use Rattle.rncv_c.specs.contracts.handle.Handle.{the_row, the_type}
 
 -- what a handle may hold may move: a schema, or a document in progress
 held : IsSend Held.the_row
-held = search (sendable, crosses, validator_send, document_send) depth 20
+held = search (sendable, crosses, validator_send, document_send, events_send) depth 20
 
 keyless : (alloc : Global) (p : Ptr) (held : Option (Held.the_row).Denot) → Keyless (handle_owns alloc p held)
 keyless alloc p None = tt
