@@ -6,7 +6,8 @@
         print(validator.validate(document))
 
 A schema is a set of files in the RELAX NG Compact Syntax. A document is XML (`Validator.validate_xml`), or PYX, one event a line (`Validator.validate`;
-docs/use/XML.md says how to make it from XML). A schema is compiled once, and then judges documents, one after another.
+docs/use/XML.md says how to make it from XML), or the calls of a parser (`Validator.events`), or a tree (`Validator.validate_tree`). A schema is compiled once,
+and then judges documents, one after another.
 
 The variable RNCV_LIBRARY names the library, or a folder that has `lib/librncv.so`. Without it the module searches beside this package, in
 `build/library/lib` of the checkout that has this package, where `make install` put the library, and where the system keeps libraries. It loads the
@@ -25,19 +26,22 @@ import ctypes
 import ctypes.util
 import dataclasses
 import functools
+import itertools
+import operator
 import os
 import pathlib
 import threading
 import weakref
 from collections.abc import Callable, Generator, Iterable, Iterator, Mapping
 from types import TracebackType
-from typing import Any, BinaryIO, NamedTuple, NoReturn, Optional, Type, Union, overload
+from typing import Any, BinaryIO, NamedTuple, NoReturn, Optional, Type, TypeVar, Union, overload
 
-from . import _schema_files, _xml
+from . import _events, _schema_files, _xml
+from ._events import Attributes, EventVerdict, TreeVerdict
 from ._xml import XmlVerdict
 
-__all__ = ["Document", "LibraryError", "Place", "SchemaError", "Validator", "Verdict", "XmlVerdict", "clause_title", "compile", "datatype_place", "mentions",
-           "version"]
+__all__ = ["Document", "EventVerdict", "Events", "LibraryError", "Place", "SchemaError", "TreeVerdict", "Validator", "Verdict", "XmlVerdict", "clause_title",
+           "compile", "datatype_place", "mentions", "version"]
 __version__ = "0.9.0"
 
 Bytes = Union[bytes, bytearray, memoryview]
@@ -254,15 +258,34 @@ class Validator:
 
         RuntimeError: another document is in progress, that is, not finished, not closed, and still referred to. MemoryError: out of memory.
         """
-        with self._lock:
-            self._want_free()
-            document = Document(self)
-            self._document = weakref.ref(document)
-            status = self._library.rncv_document_begin(self._handle)
-            if status != _DONE:
-                self._document = None
-            _want_done(status)
-            return document
+        return self._begun(Document(self), self._library.rncv_document_begin)
+
+    def events(self) -> Events:
+        """Begins a document that comes as events, as a parser tells it: the start and the end of each element, and texts.
+
+        RuntimeError: another document is in progress, that is, not finished, not closed, and still referred to. MemoryError: out of memory.
+        """
+        return self._begun(Events(self), self._library.rncv_events_begin)
+
+    def validate_tree(self, tree: Any) -> TreeVerdict:
+        """Judges a tree of `xml.etree.ElementTree` or of `lxml`, without writing it: an element, which is then the root, or a whole tree. Names are written
+        `{uri}local`. Comments and processing instructions are left out, and the texts around them are one. The tree may be of any depth. Do not change it
+        during the call.
+
+        TypeError: it is no such tree, or a name, a text or a value in it is not text. ValueError: it has a reference to an entity. RuntimeError: another
+        document is in progress. MemoryError: out of memory.
+        """
+        root = _events.root_of(tree)
+        with self.events() as events:
+            for at, element in _events.walk(root):
+                if not events._tell(at, element):
+                    return TreeVerdict("malformed", element, at)
+            verdict = events.finish()
+        if verdict.place is None:
+            return TreeVerdict(verdict.kind)
+        tags = ((at, element) for at, element in _events.walk(root) if at in ("start", "end"))
+        at, element = next(itertools.islice(tags, verdict.place - 1, None))
+        return TreeVerdict(verdict.kind, element, at)
 
     def share(self) -> Validator:
         """Returns another validator for the same schema, for example for another thread. The schema is not copied. Close each of the two separately.
@@ -316,6 +339,17 @@ class Validator:
         if self._closed:
             raise ValueError("the validator is closed")
 
+    def _begun(self, document: _Begun, begin: Callable[[_Schema], int]) -> _Begun:
+        """The document, which the library has begun by this call."""
+        with self._lock:
+            self._want_free()
+            self._document = weakref.ref(document)
+            status = begin(self._handle)
+            if status != _DONE:
+                self._document = None
+            _want_done(status)
+            return document
+
     def _want_free(self) -> None:
         """Raises an error if a document is in progress and is still referred to."""
         self._want_open()
@@ -338,17 +372,79 @@ class Validator:
     def _let_go(self) -> None:
         """Drops a document that is no longer referred to. Raises an error if another document is in progress."""
         self._want_free()
+        self._drop()
+
+    def _drop(self) -> None:
+        """Drops a document of either kind, if there is one."""
         self._library.rncv_document_end(self._handle, _Verdict())
+        self._library.rncv_events_finish(self._handle, _Verdict())
 
 
-class Document:
+class _InProgress:
+    """A document in progress, of either kind."""
+
+    def __init__(self, validator: Validator) -> None:
+        self._validator = validator
+
+    def close(self) -> None:
+        """Drops the document, without a verdict. Does nothing if it has ended."""
+        with self._validator._lock:
+            if self._is_in_progress():
+                self._validator._document = None
+                self._validator._drop()
+
+    def __exit__(self, kind: Optional[Type[BaseException]], error: Optional[BaseException], trace: Optional[TracebackType]) -> None:
+        self.close()
+
+    def __reduce__(self) -> NoReturn:
+        raise TypeError("a document is not copied or pickled")
+
+    def _is_in_progress(self) -> bool:
+        current = self._validator._document
+        return current is not None and current() is self
+
+    def _want_progress(self) -> None:
+        self._validator._want_open()
+        if not self._is_in_progress():
+            raise ValueError("the document has ended")
+
+    def _reported_by(self, call: Callable[[_Schema, _Verdict], int]) -> _Verdict:
+        """Ends the document by this call of the library, and returns what it reports."""
+        reported = _Verdict()
+        with self._validator._lock:
+            self._want_progress()
+            status = call(self._validator._handle, reported)
+            self._validator._document = None
+        _want_done(status)
+        return reported
+
+    def _since_by(self, call: Callable[[_Schema, ctypes.c_uint64], int]) -> Optional[int]:
+        """The line or the place that this call of the library reports."""
+        since = ctypes.c_uint64()
+        with self._validator._lock:
+            self._want_progress()
+            _want_done(call(self._validator._handle, since))
+        return since.value or None
+
+    def _is_taken(self, call: Callable[..., int], *words: Any) -> bool:
+        """Passes a part of the document to the library. Returns False if it is malformed."""
+        with self._validator._lock:
+            self._want_progress()
+            status = call(self._validator._handle, *words)
+        if status == _MALFORMED:
+            return False
+        _want_done(status)
+        return True
+
+
+_Begun = TypeVar("_Begun", bound=_InProgress)
+
+
+class Document(_InProgress):
     """A document in progress. `Validator.begin` makes one.
 
     A `with` block drops it at its end. Every call on a finished or dropped document raises ValueError.
     """
-
-    def __init__(self, validator: Validator) -> None:
-        self._validator = validator
 
     def feed(self, piece: Bytes) -> bool:
         """Takes the next bytes. A piece may end anywhere, even inside a line or a character.
@@ -364,58 +460,89 @@ class Document:
     def invalid_since(self) -> Optional[int]:
         """Returns the line, from 1, after which no continuation is valid; None while no such line is known. It is one of the lines that were fed, and no
         document with the same lines up to it is valid."""
-        line = ctypes.c_uint64()
-        with self._validator._lock:
-            self._want_progress()
-            _want_done(self._validator._library.rncv_document_invalid_since(self._validator._handle, line))
-        return line.value or None
+        return self._since_by(self._validator._library.rncv_document_invalid_since)
 
     def finish(self) -> Verdict:
         """Ends the document and returns the verdict. The validator can judge the next one. MemoryError: out of memory; the document has ended."""
-        reported = _Verdict()
-        with self._validator._lock:
-            self._want_progress()
-            status = self._validator._library.rncv_document_end(self._validator._handle, reported)
-            self._validator._document = None
-        _want_done(status)
+        reported = self._reported_by(self._validator._library.rncv_document_end)
         return Verdict(_KINDS[reported.kind], reported.clause, reported.line)
-
-    def close(self) -> None:
-        """Drops the document, without a verdict. Does nothing if it has ended."""
-        with self._validator._lock:
-            if self._is_in_progress():
-                self._validator._document = None
-                self._validator._library.rncv_document_end(self._validator._handle, _Verdict())
 
     def __enter__(self) -> Document:
         with self._validator._lock:
             self._want_progress()
         return self
 
-    def __exit__(self, kind: Optional[Type[BaseException]], error: Optional[BaseException], trace: Optional[TracebackType]) -> None:
-        self.close()
-
-    def __reduce__(self) -> NoReturn:
-        raise TypeError("a document is not copied or pickled")
-
     def _feed_part(self, part: bytes) -> bool:
         """Passes an object of type `bytes` to the library in one call. Returns what `feed` returns."""
+        return self._is_taken(self._validator._library.rncv_document_feed, part, len(part))
+
+
+class Events(_InProgress):
+    """A document in progress that comes as events. `Validator.events` makes one.
+
+        with validator.events() as events:
+            events.start("{urn:letters}letter", {"to": "Ada"}, place=1)
+            events.text("Hi")
+            events.end(place=2)
+            print(events.finish())
+
+    A name is written `local`, or `{uri}local` if it has a namespace. A place is a number from 1 to 2^64 - 1, such as a line. Without one it is the number of
+    the start or end, counted from 1. `start`, `text` and `end` return False once no document begins with the calls so far, and then more of them change
+    nothing; otherwise True. MemoryError: out of memory, and each later call for this document raises it too. A `with` block drops the document at its end.
+    Every call on a finished or dropped document raises ValueError.
+    """
+
+    def __init__(self, validator: Validator) -> None:
+        super().__init__(validator)
+        self._count = 0
+
+    def start(self, name: str, attributes: Attributes = (), place: Optional[int] = None) -> bool:
+        """Takes the start of an element. Its attributes are a mapping of names to values, or pairs. A declaration of a namespace is not an attribute.
+
+        TypeError: a name or a value is not text. ValueError: the place is out of range.
+        """
+        (uri, local), given, number = _events.parts_of(name), _events.array_of(attributes), self._place_of(place)
+        return self._is_taken(self._validator._library.rncv_events_start, number, uri, len(uri), local, len(local), given, len(given))
+
+    def text(self, text: str) -> bool:
+        """Takes a text. Texts that follow each other are one. TypeError: it is not text."""
+        given = _events.utf8_of(text)
+        return self._is_taken(self._validator._library.rncv_events_text, given, len(given))
+
+    def end(self, place: Optional[int] = None) -> bool:
+        """Takes the end of the innermost element that is open. ValueError: the place is out of range."""
+        return self._is_taken(self._validator._library.rncv_events_end, self._place_of(place))
+
+    def invalid_since(self) -> Optional[int]:
+        """Returns the place after which no continuation is valid; None while no such place is known. It is that of a start or end, and no document that begins
+        with the calls up to that one is valid."""
+        return self._since_by(self._validator._library.rncv_events_invalid_since)
+
+    def finish(self) -> EventVerdict:
+        """Ends the document and returns the verdict. The validator can judge the next one. MemoryError: out of memory; the document has ended."""
+        reported = self._reported_by(self._validator._library.rncv_events_finish)
+        return EventVerdict(_KINDS[reported.kind], reported.line or None)
+
+    def __enter__(self) -> Events:
         with self._validator._lock:
             self._want_progress()
-            status = self._validator._library.rncv_document_feed(self._validator._handle, part, len(part))
-        if status == _MALFORMED:
-            return False
-        _want_done(status)
-        return True
+        return self
 
-    def _is_in_progress(self) -> bool:
-        current = self._validator._document
-        return current is not None and current() is self
+    def _place_of(self, place: Optional[int]) -> int:
+        self._count += 1
+        number = self._count if place is None else operator.index(place)
+        if not 0 < number < 1 << 64:
+            raise ValueError(f"a place is a number from 1 to 2^64 - 1, and not {number}")
+        return number
 
-    def _want_progress(self) -> None:
-        self._validator._want_open()
-        if not self._is_in_progress():
-            raise ValueError("the document has ended")
+    def _tell(self, at: str, element: Any) -> bool:
+        """Takes what a tree has at this place of an element."""
+        if at == "start":
+            return self.start(element.tag, element.attrib)
+        if at == "end":
+            return self.end()
+        text = element.text if at == "text" else element.tail
+        return text is None or self.text(text)
 
 
 @overload
@@ -801,6 +928,12 @@ def _typed(library: ctypes.CDLL) -> ctypes.CDLL:
         ("rncv_document_feed", [schema, ctypes.c_char_p, size], status),
         ("rncv_document_invalid_since", [schema, ctypes.POINTER(ctypes.c_uint64)], status),
         ("rncv_document_end", [schema, ctypes.POINTER(_Verdict)], status),
+        ("rncv_events_begin", [schema], status),
+        ("rncv_events_start", [schema, ctypes.c_uint64, ctypes.c_char_p, size, ctypes.c_char_p, size, ctypes.POINTER(_events.Attribute), size], status),
+        ("rncv_events_text", [schema, ctypes.c_char_p, size], status),
+        ("rncv_events_end", [schema, ctypes.c_uint64], status),
+        ("rncv_events_invalid_since", [schema, ctypes.POINTER(ctypes.c_uint64)], status),
+        ("rncv_events_finish", [schema, ctypes.POINTER(_Verdict)], status),
         ("rncv_simple", [schema, ctypes.c_char_p, size, ctypes.POINTER(size)], status),
         ("rncv_clause_title", [ctypes.c_char, ctypes.c_int32], ctypes.c_char_p),
         ("rncv_version", [], ctypes.c_char_p),
