@@ -341,6 +341,7 @@ share/man/man3/rncv_compile.3
 share/man/man3/rncv_document_feed.3
 share/man/man5/rncv-pyx.5
 share/rncv/python/rncv/__init__.py
+share/rncv/python/rncv/_events.py
 share/rncv/python/rncv/_schema_files.py
 share/rncv/python/rncv/_xml.py
 share/rncv/python/rncv/py.typed
