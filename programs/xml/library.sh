@@ -20,7 +20,7 @@ hints="schema_asked schema_types schema_tree schema_grammars schema_words schema
 merging="schema_walk schema_merging schema_merged_text"
 schemas="schema_tokens annotation_names schema_annotations xml_names origins $rng catalogs $hints schema_files schema_xml $merging"
 ids="text_table id_form id_types id_check schema_ids"
-parts="$parser_parts program paths $schemas $ids event_log library_calls judging probes library"
+parts="$parser_parts program two_threads paths $schemas $ids line_places judging probes library"
 
 missing() { echo "programs/xml/library.sh: $1" >&2; exit 2; }
 

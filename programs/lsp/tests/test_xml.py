@@ -104,9 +104,9 @@ class Documents(WithServer):
 
     def test_malformed(self):
         self.assertEqual(self.one("<p:letter/>")[:2], ("P11", (1, 0, 1, 9)))
-        code, place, words = self.found(MODEL + "<a>" * 10_001 + "</a>" * 10_001)[0]
-        self.assertEqual((code, place), ("outside", (1, 30_000, 1, 30_002)))
-        self.assertIn("more than 10,000 elements are open", words)
+        code, place, words = self.found(MODEL + "<a>" * 513 + "</a>" * 513)[0]
+        self.assertEqual((code, place), ("P10", (1, 512 * 3, 1, 512 * 3 + 2)))
+        self.assertIn("more than 512 elements are open", words)
 
     def test_encodings_that_are_declared(self):
         for encoding in ("ISO-8859-1", "UTF-16", "utf-8", "EUC-JP", "Shift_JIS", "GB18030", "bogus"):

@@ -178,14 +178,11 @@ static bool is_plain(char byte) {
     return (unsigned char)byte < 0x80 && ((unsigned char)byte >= ' ' || byte == '\n' || byte == '\t');
 }
 
-/* Whether the next eight bytes are all in ASCII, and from a space on or line feeds. */
+/* Whether the next eight bytes are all from a space on and in ASCII. */
 static bool are_plain(const char *bytes) {
-    const uint64_t high = UINT64_C(0x8080808080808080);
     uint64_t word;
     memcpy(&word, bytes, sizeof word);
-    uint64_t printed = (word | high) - UINT64_C(0x2020202020202020);                                    /* the high bit is there from a space on */
-    uint64_t other = ((word ^ UINT64_C(0x0A0A0A0A0A0A0A0A)) | high) - UINT64_C(0x0101010101010101); /* and here but for a line feed */
-    return ((word | ~(printed | ~other)) & high) == 0;
+    return ((word | (word - UINT64_C(0x2020202020202020))) & UINT64_C(0x8080808080808080)) == 0;
 }
 
 /* How many bytes from here on are characters of ASCII that need no care. */

@@ -4,15 +4,12 @@
 #ifndef FEED_H
 #define FEED_H
 
+#include "conversion.h"
 #include "decoding.h"
-#include "events.h"
 
 #include <libxml/parser.h>
 
-enum {
-    MOST_ATTRIBUTES = 10000, /* of a tag, with declarations of namespaces: libxml2 compares them in pairs */
-    MARK_BYTES = 9           /* the longest beginning that tells markup: `<![CDATA[` */
-};
+enum { MOST_ATTRIBUTES = 256 }; /* with declarations of namespaces: PYX has no more in a tag */
 
 /* The start tag that is being read: how many attributes it has. It is scanned while its text comes, before libxml2 compares them in pairs. */
 struct tag_scan {
@@ -44,15 +41,6 @@ struct feed {
     uint64_t next;      /* the offset of the markup or the text that is being read */
     struct tag_scan scan;
     struct bytes room;  /* where the document's bytes are read */
-    uint64_t long_at;   /* the offset of markup that is so long that its beginning is not kept, .. */
-    struct place long_place;
-    char long_mark[MARK_BYTES]; /* .. but its place and its first bytes */
-    struct position kept_position; /* of an event whose place may be asked for later; without a feed: of none */
-    bool is_kept_known;
-    struct place kept_place;
-    size_t most;        /* the bytes that may be held of the document */
-    size_t unfinished;  /* the bytes of the text that the receiver has not seen the end of */
-    size_t kept;        /* the bytes that the receiver keeps otherwise */
     void (*before_read)(void *context); /* is called before more of the document is read, which may take long */
     void *context;
 };
@@ -87,11 +75,7 @@ uint64_t feed_markup(struct feed *feed);
 /* Moves on to the text or markup that ends at or before `end`, over references that gave nothing. Returns its offset. */
 uint64_t feed_settle(struct feed *feed, uint64_t end);
 
-/* Whether more is held of the document than is allowed. Then the other one refuses it, and tells the place. */
-bool feed_is_over(const struct feed *feed);
-void feed_check_memory(struct feed *feed, struct place place);
-
-/* Whether a tag in the text has more attributes than are read. */
+/* Whether a tag in the text has more attributes than PYX has. */
 bool has_too_many_attributes(struct span text);
 
 /* Whether a declaration in the text has more choices than are read. */

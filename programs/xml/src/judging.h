@@ -2,11 +2,9 @@
 #ifndef JUDGING_H
 #define JUDGING_H
 
-#include "event_log.h"
 #include "id_check.h"
-#include "library_calls.h"
+#include "line_places.h"
 #include "program.h"
-#include "shown.h"
 
 #include <rncv.h>
 #include <stdatomic.h>
@@ -15,7 +13,7 @@
 enum verdict {
     VERDICT_VALID,
     VERDICT_INVALID,
-    VERDICT_MALFORMED, /* not well-formed XML, or it breaks Namespaces in XML */
+    VERDICT_MALFORMED, /* not well-formed XML, or not a document of the profile */
     VERDICT_OUTSIDE,   /* something in the XML is outside the profile */
     VERDICT_FAILED     /* a file, a device or memory failed */
 };
@@ -40,7 +38,7 @@ struct answer {
     struct place place; /* line 0: none */
     enum stands stands;
     struct bytes name;    /* the name of the element or the attribute, or the first characters of the text */
-    int clause;           /* 6, 11 or 12 if the document breaks that clause by its names; else 0 */
+    int clause;           /* 1 to 13 if the document breaks P1 to P13; else 0 */
     struct bytes message; /* what is said about the document, without the place; empty if it is valid */
     struct note *notes;
     size_t note_count;
@@ -61,13 +59,12 @@ struct shared {
     const struct id_types *ids; /* the attributes with an ID-type; NULL: IDs are not checked */
     uint32_t datatypes; /* the set that the schema was compiled with; if it is another one, words about a place may be others */
     struct streams streams;
-    size_t depth;  /* the most elements that may be open in a document; 0: as many as usual */
-    size_t memory; /* the most bytes that may be held of a document; 0: as many as usual */
     atomic_ullong bytes_read;
     const char *page;  /* where the page about the clauses is */
     bool is_strict;    /* a document with a note is outside the profile */
     bool wants_earlier; /* an answer that is malformed or outside also says where the document was invalid before */
     bool loads_dtd;    /* external DTDs and entities are read, from files */
+    bool is_by_two;    /* one thread converts a large document, and another judges it */
     struct jobs *jobs; /* the jobs that the threads work on; NULL for one thread */
     void (*tick)(void *context); /* is called now and then while a document is read */
     void *context;
@@ -79,9 +76,9 @@ struct judge {
     rncv_schema schema;
     rncv_schema marked; /* allows an element wherever the schema allows text */
     bool marked_is_tried;
-    struct event_log log; /* the first events of the document, to try changes to it */
-    struct call_room room;
-    struct bytes text; /* the first characters of the text that is being read, from one that is no blank */
+    struct bytes prefix; /* the first lines of the document, to try changes to it */
+    bool prefix_is_full; /* no more lines are kept */
+    struct line_places line_places;
     struct id_check ids;
 };
 
@@ -97,5 +94,9 @@ void answer_free(struct answer *answer);
 
 /* The exit status for a verdict. */
 int status_of(enum verdict verdict);
+
+/* Adds the text with its control characters and line separators written as `\n`, `\x85`, `\u2028` and the like, so that it stays on its line. Shows at most
+ * `limit` characters. */
+void add_shown(struct bytes *line, const char *text, size_t length, size_t limit);
 
 #endif

@@ -18,8 +18,6 @@ enum name {
     NAME_VERBOSE,
     NAME_QUIET,
     NAME_DTD,
-    NAME_MAX_DEPTH,
-    NAME_MAX_MEMORY,
     NAME_NO_IDS,
     NAME_STRICT,
     NAME_STRICT_PROFILE,
@@ -52,8 +50,6 @@ static const struct option known[] = {
     {"--verbose", 'v', false, NAME_VERBOSE},
     {"--quiet", 'q', false, NAME_QUIET},
     {"--dtd", 0, false, NAME_DTD},
-    {"--max-depth", 0, true, NAME_MAX_DEPTH},
-    {"--max-memory", 0, true, NAME_MAX_MEMORY},
     {"--no-ids", 0, false, NAME_NO_IDS},
     {"--strict", 0, false, NAME_STRICT},
     {"--strict-profile", 0, false, NAME_STRICT_PROFILE},
@@ -80,8 +76,6 @@ const char *options_help(void) {
            "      --stdin-name NAME  how standard input is called in what is printed\n"
            "  -j, --jobs N         judge N documents at once, 64 at most (else the number of processors)\n"
            "      --dtd            read the external DTD and external entities of a document, from files\n"
-           "      --max-depth N    the most elements that may be open (else 10,000)\n"
-           "      --max-memory SIZE  the most memory that a document may take, in bytes, or with K, M or G (else 512M)\n"
            "      --no-ids         do not check that each ID is there once, and that what refers to one finds it\n"
            "      --strict         a document with a note, such as an external DTD that is not read, is outside the profile;\n"
            "                       a schema in the XML syntax with a note is refused\n"
@@ -151,20 +145,6 @@ static bool take_jobs(struct options *options, const char *value) {
     return true;
 }
 
-/* Reads a size: a number that is not 0, with K, M or G behind it if `has_unit`. */
-static bool take_size(struct options *options, const char *value, bool has_unit, size_t *size) {
-    static const char units[] = "KMG";
-    char *end;
-    unsigned long long number = value[0] < '0' || value[0] > '9' ? 0 : strtoull(value, &end, 10);
-    const char *unit = number > 0 && has_unit && *end != '\0' ? strchr(units, *end) : NULL;
-    unsigned shift = unit == NULL ? 0 : 10 * (unsigned)(unit - units + 1);
-    if (number == 0 || end[unit != NULL] != '\0') {
-        return is_wrong(options, has_unit ? "--max-memory wants a size as 64M, and not '%s'" : "--max-depth wants a number, and not '%s'", value);
-    }
-    *size = number > (unsigned long long)(SIZE_MAX / 4) >> shift ? SIZE_MAX / 4 : (size_t)number << shift;
-    return true;
-}
-
 static bool take_mapping(struct options *options, const char *value) {
     const char *equal = strrchr(value, '=');
     struct mapping *longer;
@@ -231,10 +211,6 @@ static bool take_value(struct options *options, enum name name, const char *valu
     case NAME_MOST_FILES:
         options->most_files = (size_t)strtoul(value, NULL, 10);
         return true;
-    case NAME_MAX_DEPTH:
-        return take_size(options, value, false, &options->depth);
-    case NAME_MAX_MEMORY:
-        return take_size(options, value, true, &options->memory);
     case NAME_FORMAT:
         return take_format(options, value);
     case NAME_COLOR:
