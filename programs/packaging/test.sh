@@ -342,6 +342,7 @@ share/man/man3/rncv_document_feed.3
 share/man/man5/rncv-pyx.5
 share/rncv/python/rncv/__init__.py
 share/rncv/python/rncv/_events.py
+share/rncv/python/rncv/_expected.py
 share/rncv/python/rncv/_schema_files.py
 share/rncv/python/rncv/_xml.py
 share/rncv/python/rncv/py.typed
@@ -738,7 +739,7 @@ if has emacs; then
 (progn
   (require 'rncv)
   (let ((pattern (cadr (assq 'rncv compilation-error-regexp-alist-alist)))
-        (line \"untitled.xml:3:3: invalid: at <subject>\"))
+        (line \"untitled.xml:3:3: invalid: <subject> is not allowed here; expected <title>\"))
     (when (string-match pattern line)
       (princ (format \"%s %s %s\" (match-string 1 line) (match-string 2 line) (match-string 3 line))))))" 2>&1)"
     cp "$shells/emacs/site-lisp/rncv.el" "$room/rncv.el"

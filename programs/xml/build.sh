@@ -39,11 +39,12 @@ objects() { for source in "$@"; do printf '%s ' "$work/$source.o"; done; }
 shared="$parser_parts program"
 rng="rng_tree rng_namespaces rng_grammar rng_uri rng_prefixes rng_words rng_patterns rng_writer"
 hints="schema_asked schema_types schema_tree schema_grammars schema_words schema_restrictions schema_hints schema_datatypes"
+telling="probes expected scope declared near telling"
 merging="schema_walk schema_merging schema_merged_text"
-reading="two_threads paths schema_tokens annotation_names schema_annotations xml_names origins $rng catalogs schema_files schema_xml $merging"
+reading="paths schema_tokens annotation_names schema_annotations xml_names origins $rng catalogs schema_files schema_xml $merging"
 ids="text_table id_form id_types id_check schema_ids schema_context"
-judging="$reading $ids $hints options clause_page documents line_places judging probes progress formats report jobs"
-converting="$reading $ids line_places judging probes"
+judging="$reading $ids $hints options clause_page documents event_log library_calls judging $telling progress formats source_line report jobs"
+converting="$reading $ids schema_asked event_log library_calls judging $telling"
 
 compile $shared xml2pyx
 $cc $linked ${CFLAGS:--O2} -o "$work/xml2pyx" $(objects $shared xml2pyx) $parser_libs -lpthread ${LIBS:-}

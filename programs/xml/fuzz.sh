@@ -3,7 +3,8 @@
 #
 # It takes 60 seconds if no number is given. FUZZ_SEED says where to begin. rncv-xml is among the programs if the library is built (RNCV_LIBRARY). For each
 # document a program has to end with one of its statuses, without a message of the sanitizers. It has to call the document well-formed exactly if the
-# converter in Python does, but for the reasons that docs/use/XML.md lists. RNCV_PROGRAM names the built `rncv`, by default that of crates/rncv.
+# converter in Python does, but for the reasons that docs/use/XML.md lists. rncv-xml has to say what `rncv` says of the PYX. RNCV_PROGRAM names the built
+# `rncv`, by default that of crates/rncv.
 set -eu
 here=$(cd "$(dirname "$0")" && pwd)
 room=$(mktemp -d)

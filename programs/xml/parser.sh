@@ -1,5 +1,5 @@
 # Finds the parser of XML, libxml2. It is read by build.sh and library.sh, and sets parser_flags and parser_libs, unless the variables XML2_CFLAGS and XML2_LIBS
-# say where it is, and parser_parts: the sources that convert XML to PYX.
+# say where it is, and parser_parts: the sources that read XML, and convert it to PYX.
 if [ -n "${XML2_LIBS:-}" ]; then
     parser_flags=${XML2_CFLAGS:-}
     parser_libs=$XML2_LIBS
@@ -13,7 +13,7 @@ else
     parser_flags=-I/usr/include/libxml2
     parser_libs=-lxml2
 fi
-parser_parts="bytes fault encodings xml_declaration decoding feed declarations parser_memory parser_words external conversion"
+parser_parts="bytes fault encodings xml_declaration decoding feed declarations parser_memory parser_words external shown tag_names known_names events conversion"
 
 # Whether it is there, and new enough, as a program of a few lines finds in a folder.
 has_parser() {

@@ -3,6 +3,7 @@ pub mod Attributes
 pub mod Calls
 pub mod Datatypes
 pub mod Events
+pub mod Expected
 pub mod Files
 pub mod Handles
 pub mod Held

@@ -16,6 +16,7 @@ ghost use Rattle.rncv_c.specs.views.Attributes.{AreTexts, name_in, start_of};
 ghost use Rattle.rncv_c.specs.views.Calls.{HasBegun, HasEnded, HasTaken, IsInvalidSince};
 ghost use Rattle.rncv_c.specs.views.Datatypes.{set_of};
 ghost use Rattle.rncv_c.specs.views.Events as of_events;
+ghost use Rattle.rncv_c.specs.views.Expected.{HoldsNoDocument, IsExpectationIn};
 ghost use Rattle.rncv_c.specs.views.Files.{AreNamed, files_of, main_of};
 ghost use Rattle.rncv_c.specs.views.Held.{document_in, events_in, grammar_in, schema_in};
 ghost use Rattle.rncv_c.specs.views.Mentions.{AreMentionsOf, IsRefusedAlone};
@@ -26,6 +27,7 @@ mod attributes;
 mod datatypes;
 mod documents;
 mod events;
+mod expected;
 mod files;
 mod handle;
 mod mentions;
@@ -373,6 +375,31 @@ pub extern "C" fn rncv_events_finish(
     ensures kept { result ≢ pos 4 → schema_in schema.new.held ≡ grammar_in schema.old.held }
 {
     events::finish(alloc, schema, verdict).code()
+}
+
+/// Writes what may come next in the document that the handle holds, as text, to the buffer if it fits, and reports its
+/// length in `count`. `expected_text` has the lines. If no continuation is valid, it is what could have come before the
+/// event that made it so.
+///
+/// Returns 0 on success; 3 when out of memory, or if a call for the document was; 4 exactly if no document is begun; 5 if
+/// the text does not fit, and then nothing is written to the buffer. Costs what `expected` of the document costs, the
+/// text, and a copy. RELAX NG Specification, sections 6.2 and 6.2.7.
+#[unsafe(no_mangle)]
+pub extern "C" fn rncv_expected(
+    alloc: Global,
+    schema: &mut Handle,
+    buffer: &mut [u8],
+    count: &mut usize,
+) -> i32
+    ensures done { result ≡ pos 0 → IsWritten (IsExpectationIn schema.old.held) count.new buffer.old buffer.new }
+    ensures space { result ≡ pos 5 → IsTooLong (IsExpectationIn schema.old.held) count.new buffer.old }
+    ensures misuse { (result ≡ pos 4) ↔ HoldsNoDocument schema.old.held }
+    ensures others { result ≢ pos 0 → result ≢ pos 4 → result ≢ pos 5 → result ≡ pos 3 }
+    ensures failed { result ≢ pos 0 → buffer.new ≡ buffer.old }
+    ensures untold { result ≢ pos 0 → result ≢ pos 5 → count.new ≡ count.old }
+    ensures kept { schema.new.held ≡ schema.old.held }
+{
+    expected::expected(alloc, schema, buffer, count).code()
 }
 
 /// Writes the printed simple form of the schema to the buffer if it fits, and reports its length in `count`.

@@ -11,13 +11,12 @@ use Rattle.element_events.specs.declared.fault.EventFault.{EventFault}
 use Rattle.element_events.specs.declared.fault.EventFault.TheVariants as faults
 use Rattle.element_events.proofs.Taken.{none_more}
 use Rattle.rng_deriv.specs.declared.matcher_state.MatcherState.{MatcherState}
-use Rattle.rng_deriv.specs.views.Matchers.{HasFailedAt, HasGoneOn, HasRunOut, IsStateBy, Knows, Matching, failed_line, matching_in}
+use Rattle.rng_deriv.specs.views.Matchers.{HasFailedAt, HasGoneOn, HasRunOut, IsStateBy, Knows, Matching, matching_in}
 use Rattle.rncv_validator.specs.views.FedDocuments.{HasNotRunOut, IsFresh, matching_of}
 use Rattle.rncv_validator.proofs.FedDocuments.{gone, grammar_put, kept_put, known_put, of_some, state_put}
 use Rattle.rncv_events.specs.Answers.{IsResult}
 use Rattle.rncv_events.specs.views.Settled.{IsSettled}
 use Rattle.rncv_events.specs.views.Told.{HasTaken, IsFaultOfCalls, IsKeptFault, IsStuck, Judging, Takes, failed_since}
-use Rattle.rncv_events.proofs.ToldDocuments.{failed_by}
 
 -- ---- no call yet
 
@@ -139,8 +138,8 @@ module _ (g now : Table) (s : MatcherState) (old new : Matching) (same : now ≡
 
     still_failed : (longer : Longer) → new ≡ matching_of g place → (at : ℕ) → failed_since d ≡ Some at → failed_since After ≡ Some at
     still_failed longer now at f =
-        let was : HasFailedAt old at = subst (λ (m : Matching). HasFailedAt m at) (sym there) (failed_by d.matching.progress at f) in
-        ap failed_line (subst (λ (m : Matching). HasFailedAt m at) now ((on longer).failed at was))
+        let was : HasFailedAt old at = subst (λ (m : Matching). HasFailedAt m at) (sym there) f in
+        subst (λ (m : Matching). HasFailedAt m at) now ((on longer).failed at was)
 
     pub since_settled : (r : Result Unit EventFault) → UnlessOutOfMemory r Longer → IsSettled r new earlier place fault
         → IfSome (failed_since d) (λ at. UnlessOutOfMemory r (failed_since After ≡ Some at))

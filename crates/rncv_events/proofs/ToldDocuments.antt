@@ -26,12 +26,10 @@ use Rattle.element_events.specs.declared.fault.EventFault.TheVariants as faults
 use Rattle.element_events.proofs.Kept.{verdict_stuck, working}
 use Rattle.element_events.proofs.Taken.{begins}
 use Rattle.rng_deriv_laws.specs.plain.Outcomes.{FailsAt, IsOutcome}
-use Rattle.rng_deriv_events.specs.declared.progress.Progress.{Progress}
-use Rattle.rng_deriv_events.specs.declared.progress.Progress.TheVariants as progress
-use Rattle.rng_deriv_events.specs.views.Positions.{IsKnown}
-use Rattle.rng_deriv_table.specs.views.Node.{Node}
+use Rattle.rng_deriv_events.specs.views.Positions.{failed_line}
+use Rattle.rng_deriv_events.proofs.KnownDocuments.{fails_there, names_there}
 use Rattle.rng_deriv_table.specs.views.Trees.{trees}
-use Rattle.rng_deriv.specs.views.Matchers.{HasFailedAt, HasRunOut, Knows, Matching, failed_line}
+use Rattle.rng_deriv.specs.views.Matchers.{HasFailedAt, HasRunOut, Knows, Matching, judges_by}
 use Rattle.rncv_validator.specs.views.Validators.{JudgesWith}
 use Rattle.rncv_validator.proofs.FedDocuments.{Says, known_start, of_some}
 use Rattle.rncv_events.specs.Answers.{AreHopelessFrom, IsAnswer, KnowsStarts}
@@ -47,25 +45,6 @@ element_tree (element_at n q xs kids m) calls told = record { line = n; name = q
 -- an event in the middle of events that go on
 middle : (before : List Event) (e : Event) (rest more : List Event) → (before ++ e ∷ rest) ++ more ≡ (before ++ e ∷ []) ++ (rest ++ more)
 middle before e rest more = append_assoc before (e ∷ rest) more ∙ sym (append_assoc before (e ∷ []) (rest ++ more))
-
--- ---- what a matcher knows of events
-
-pub failed_by : (p : Progress) (place : ℕ) → failed_line p ≡ Some place → p ≡ progress.Failed place
-failed_by (progress.Going p at) place f = absurd (cc)
-failed_by (progress.Failed at) place f = cc
-failed_by progress.Lost place f = absurd (cc)
-
-module _ (g : Table) (nodes : List Node) (events : List Event) where
-  abbrev IsKnownBy : Progress → Type 0
-  IsKnownBy p = IsKnown (reading_of g) (trees g nodes) p events
-
-  fails_there : (p : Progress) (place : ℕ) → failed_line p ≡ Some place → IsKnownBy p → FailsAt (reading_of g) events place
-  fails_there p place f known = subst IsKnownBy (failed_by p place f) known
-
-  names_there : (p : Progress) → failed_line p ≡ None → ¬ (p ≡ progress.Lost) → IsKnownBy p → All (λ (e : Event). KnowsName (grammar_of g) e.kind) events
-  names_there (progress.Going p at) none kept come = come.known
-  names_there (progress.Failed at) none kept fails = absurd (cc)
-  names_there progress.Lost none kept known = absurd (kept refl)
 
 -- ---- a schema of the grammar
 
@@ -124,12 +103,12 @@ module _ (d : Judging) (types : TypeSet) (s : Schema) (judges : JudgesWith types
   pub hopeless_from : (place : ℕ) → failed_since d ≡ Some place → d.calls.fault ≡ None → AreHopelessFrom (IsValidBySchemaWith types s) (IsUnknownIn s) calls place
   hopeless_from place failed calm =
       hopeless d.matching.grammar types s judges_so (working d.calls calls taken.events calm taken.stands) place
-      (fails_there d.matching.grammar d.matching.patterns taken.events d.matching.progress place failed taken.knows)
+      (fails_there (judges_by d.matching) (trees d.matching.grammar d.matching.patterns) taken.events d.matching.progress place failed taken.knows)
 
   pub all_known : failed_since d ≡ None → ¬ (HasRunOut d.matching) → d.calls.fault ≡ None → KnowsStarts (IsUnknownIn s) calls
   all_known none kept calm =
       starts_known d.matching.grammar types s judges_so (working d.calls calls taken.events calm taken.stands)
-      (names_there d.matching.grammar d.matching.patterns taken.events d.matching.progress none kept taken.knows)
+      (names_there (judges_by d.matching) (trees d.matching.grammar d.matching.patterns) taken.events d.matching.progress none kept taken.knows)
 
   pub ended_answer : {A : Type 0} (m : Matching) → m ≡ d.matching → d.calls.fault ≡ None → (ended : Result A EventFault) (o : Result Outcome OutOfMemory)
       → IsVerdict ended calls taken.events → IfOk o (Says m) → IsAnswer (IsValidBySchemaWith types s) (IsUnknownIn s) calls (answer_by ended o)
@@ -152,7 +131,7 @@ pub ended_since : {A : Type 0} (d : Judging) (m : Matching) → m ≡ d.matching
     → ((place : ℕ) → HasFailedAt m place → IfOk o (λ told. told ≡ outcome.Invalid place))
     → IfSome (failed_since d) (λ place. IfOk (answer_by ended o) (λ told. told ≡ outcome.Invalid place))
 ended_since d m there (Ok x) (Ok o) failed = of_some (failed_since d) (λ place f.
-    failed place (ap (λ (m : Matching). m.progress) there ∙ failed_by d.matching.progress place f))
+    failed place (ap (λ (m : Matching). failed_line m.progress) there ∙ f))
 ended_since d m there (Ok x) (Err e) failed = of_some (failed_since d) (λ place f. tt)
 ended_since d m there (Err f) o failed = of_some (failed_since d) (λ place f. tt)
 

@@ -5,6 +5,9 @@ ghost use Rattle.rng_model.specs.xsd.SchemasWith.{IsValidBySchemaWith};
 ghost use Rattle.rng_model.specs.declared.type_set.TypeSet.{TypeSet};
 ghost use Rattle.rng_model.specs.documents.PyxTrees.{Event, a_string, an_end};
 ghost use Rattle.rncv_model.specs.answers.Verdict.{IsUnknownIn};
+ghost use Rattle.rng_model.specs.matching.GrammarMatching.{reading_of};
+ghost use Rattle.rng_expected.specs.views.Next.{next_of};
+ghost use Rattle.rng_deriv.specs.views.Followers.{MayFollow};
 ghost use Rattle.rncv_validator.specs.views.Validators.{JudgesWith};
 ghost use Rattle.element_events.specs.views.Kept.{UnlessOutOfMemory};
 ghost use Rattle.element_events.specs.views.Told.{call, start_told};
@@ -15,6 +18,7 @@ use crate::settling::settle;
 use element_events::{Attribute, ElementEvents, EventFault, ExpandedName};
 use rncv_validator::Validator;
 use rng_deriv::{Matcher, MatcherState};
+use rng_expected::Expected;
 use rng_model::{OutOfMemory, Outcome, SimpleGrammar};
 use std::alloc::Global;
 use std::marker::Model;
@@ -199,6 +203,26 @@ impl EventDocument {
             → HasTaken self.now calls → KnowsStarts (IsUnknownIn s) calls }
     {
         self.state.as_ref()?.failed_at()
+    }
+
+    /// Returns what may come next in the innermost open element, or what could have come before the event after which no
+    /// continuation is valid, if `invalid_since` returns one.
+    ///
+    /// It is stated on what is left of the pattern (`Expected`): an element or a datatype counts where its pattern stands.
+    /// After a text it is what may come behind that text; a blank text counts as nothing (section 6.2.7). Fails
+    /// only when this call, or an earlier one, is out of memory. Time and memory are linear in the number of patterns that
+    /// the matcher keeps. RELAX NG Specification, sections 6.2 and 6.2.7.
+    pub fn expected(&self) -> Result<Expected<'_>, OutOfMemory>
+        ensures { IfOk result (λ e. (calls : List Event) (taken : HasTaken self.now calls)
+            → MayFollow (reading_of self.now.grammar) self.now.matching.progress (next_of e) taken.events) }
+    {
+        let Some(state) = &self.state else {
+            return Err(OutOfMemory);
+        };
+        let Some(expected) = state.expected(self.alloc, &self.grammar)? else {
+            unreachable!();
+        };
+        Ok(expected)
     }
 
     /// Ends the document, and returns whether it is valid, and the validator for the next document.

@@ -16,7 +16,7 @@ use Rattle.rng_model.specs.documents.ElementTrees.{IsElementTree}
 use Rattle.rng_model.specs.documents.PyxTrees.{Event, EventKind, a_start, a_string, an_end, Placed, events_of, item_of}
 use Rattle.rng_model.specs.matching.GrammarMatching.{reading_of, IsValidBy}
 use Rattle.rng_model.specs.matching.Outcomes.{KnowsName}
-use Rattle.rng_deriv_laws.specs.plain.Outcomes.{FailsAt, IsOutcome}
+use Rattle.rng_deriv_laws.specs.plain.Outcomes.{IsOutcome}
 use Rattle.rng_deriv_laws.proofs.PyxDocuments.{document_formed}
 use Rattle.rng_model.specs.schema.Schema.{Schema}
 use Rattle.rng_model.specs.simple.Table.{Table, grammar_of}
@@ -34,11 +34,9 @@ use Rattle.pyx.proofs.Events.FedLines.{ended_events, fed_front, fed_line}
 use Rattle.pyx.proofs.Input.ReaderAfterPiece.{fed_stuck}
 use Rattle.pyx.proofs.ReaderOutcome.{is_fault_after}
 use Rattle.rng_deriv.specs.declared.matcher_state.MatcherState.{MatcherState}
-use Rattle.rng_deriv_events.specs.declared.progress.Progress.{Progress}
-use Rattle.rng_deriv_events.specs.declared.progress.Progress.TheVariants as progress
-use Rattle.rng_deriv_events.specs.views.Positions.{IsKnown}
+use Rattle.rng_deriv_events.proofs.KnownDocuments.{fails_there, names_there}
 use Rattle.rng_deriv_table.specs.views.Trees.{trees}
-use Rattle.rng_deriv.specs.views.Matchers.{HasFailedAt, HasGoneOn, HasRunOut, IsStateBy, Knows, Matching, failed_line, judges_by, matching_in}
+use Rattle.rng_deriv.specs.views.Matchers.{HasFailedAt, HasGoneOn, HasRunOut, IsStateBy, Knows, Matching, judges_by, matching_in}
 use Rattle.rncv_validator.specs.plain.Judging.{IsUnknownTo, verdict_of}
 use Rattle.rncv_validator.specs.declared.fault.DocumentFault.{DocumentFault}
 use Rattle.rncv_validator.specs.declared.fault.DocumentFault.TheVariants as faults
@@ -123,11 +121,6 @@ pub of_some : {A : Type 0} {P : A → Type 0} (o : Option A) → ((x : A) → o 
 of_some None h = tt
 of_some (Some x) h = h x refl
 
-failed_at : (p : Progress) (line : ℕ) → failed_line p ≡ Some line → p ≡ progress.Failed line
-failed_at (progress.Going p at) line f = absurd (cc)
-failed_at (progress.Failed at) line f = cc
-failed_at progress.Lost line f = absurd (cc)
-
 module _ (d e : Judging) (old new : Matching) (there : old ≡ d.matching) (now : new ≡ e.matching) (same : e.matching.grammar ≡ e.grammar)
     (piece : List ℕ) (longer : calls.Extends (Hands HasGoneOn old new) d.reader e.reader piece) where
   pub piece_fed : (bytes : List ℕ) → HasBeenFed d bytes → HasBeenFed e (bytes ++ piece)
@@ -145,8 +138,8 @@ module _ (d e : Judging) (old new : Matching) (there : old ≡ d.matching) (now 
   pub stays_failed : (line : ℕ) → failed_since d ≡ Some line → failed_since e ≡ Some line
   stays_failed line f =
       let on = gone old new longer.0 longer.1 in
-      let was : HasFailedAt old line = subst (λ (m : Matching). HasFailedAt m line) (sym there) (failed_at d.matching.progress line f) in
-      ap failed_line (subst (λ (m : Matching). HasFailedAt m line) now (on.failed line was))
+      let was : HasFailedAt old line = subst (λ (m : Matching). HasFailedAt m line) (sym there) f in
+      subst (λ (m : Matching). HasFailedAt m line) now (on.failed line was)
 
   pub since_kept : IfSome (failed_since d) (λ line. failed_since e ≡ Some line)
   since_kept = of_some (failed_since d) stays_failed
@@ -213,8 +206,7 @@ pub hopeless_from : (d : Judging) (line : ℕ) (types : TypeSet) (s : Schema) (b
     → JudgesWith types d.grammar s → HasBeenFed d bytes → IsHopelessFrom (IsValidBySchemaWith types s) bytes line
 hopeless_from d line types s bytes f judges fed =
     let m = d.matching in
-    let fails : FailsAt (judges_by m) fed.events line = subst (λ p. IsKnown (judges_by m) (trees m.grammar m.patterns) p fed.events)
-    (failed_at m.progress line f) fed.knows in
+    let fails = fails_there (judges_by m) (trees m.grammar m.patterns) fed.events m.progress line f fed.knows in
     let e : Event = record { line = line; kind = fails.kind } in
     let at = fed_line d.reader bytes fed.events fed.reads fails.before e fails.behind fails.parts in
     record {
@@ -233,16 +225,7 @@ hopeless_from d line types s bytes f judges fed =
 all_known : (d : Judging) (bytes : List ℕ) (fed : HasBeenFed d bytes) → failed_since d ≡ None → ¬ (HasRunOut d.matching)
     → All (λ (e : Event). KnowsName (grammar_of d.grammar) e.kind) fed.events
 all_known d bytes fed none kept = subst (λ (t : Table). All (λ (e : Event). KnowsName (grammar_of t) e.kind) fed.events) fed.by_grammar
-    (by_progress d.matching.progress refl none)
-  where
-    by_progress : (p : Progress) → d.matching.progress ≡ p → failed_line p ≡ None → All (λ (e : Event). KnowsName (grammar_of d.matching.grammar) e.kind) fed.events
-    by_progress (progress.Going q line) e none =
-        let m = d.matching in
-        let come : IsKnown (judges_by m) (trees m.grammar m.patterns) (progress.Going q line) fed.events =
-        subst (λ p. IsKnown (judges_by m) (trees m.grammar m.patterns) p fed.events) e fed.knows in
-        come.known
-    by_progress (progress.Failed line) e none = absurd (cc)
-    by_progress progress.Lost e none = absurd (kept e)
+    (names_there (judges_by d.matching) (trees d.matching.grammar d.matching.patterns) fed.events d.matching.progress none kept fed.knows)
 
 pub known_start : (g : Table) (types : TypeSet) (s : Schema) → JudgesWith types g s → (kind : EventKind) → KnowsName (grammar_of g) kind
     → StartsUnknown (IsUnknownIn s) kind → ⊥
@@ -297,7 +280,7 @@ pub ended_since : {A : Type 0} (d : Judging) (old new : Matching) → old ≡ d.
     → ((line : ℕ) → HasFailedAt new line → IfOk o (λ told. told ≡ outcome.Invalid line))
     → IfSome (failed_since d) (λ line. IfOk (verdict_by ended o) (λ v. IsMalformed v ⊎ (v ≡ Invalid line)))
 ended_since d old new there (Ok x) (Ok o) ends says = of_some (failed_since d) (λ line f.
-    let was : HasFailedAt old line = subst (λ (m : Matching). HasFailedAt m line) (sym there) (failed_at d.matching.progress line f) in
+    let was : HasFailedAt old line = subst (λ (m : Matching). HasFailedAt m line) (sym there) f in
     let now = (gone old new ends.0 ends.1).failed line was in
     told o line (says line now))
   where

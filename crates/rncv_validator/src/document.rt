@@ -15,13 +15,17 @@ ghost use Rattle.rncv_validator.specs.views.Documents.{failed_since, told_by};
 ghost use Rattle.rncv_validator.specs.views.FedDocuments.{verdict_by};
 ghost use Rattle.pyx.specs.views.Calls.{Extends};
 ghost use Rattle.rng_model.specs.documents.EventViews.{Hands};
+ghost use Rattle.rng_deriv.specs.views.Followers.{MayFollow};
 ghost use Rattle.rng_deriv.specs.views.Matchers.{HasGoneOn};
+ghost use Rattle.rng_expected.specs.views.Next.{next_of};
+ghost use Rattle.rng_model.specs.matching.GrammarMatching.{reading_of};
 
 use crate::fault::DocumentFault;
 use crate::validator::Validator;
 use pyx::Reader;
 use rncv_model::Verdict;
 use rng_deriv::{Matcher, MatcherState, Outcome};
+use rng_expected::Expected;
 use rng_model::{OutOfMemory, PyxFault, SimpleGrammar};
 use std::alloc::Global;
 use std::marker::Model;
@@ -121,6 +125,26 @@ impl Document {
             → JudgesWith types self.now.grammar s → HasBeenFed self.now bytes → HaveEnded bytes n → KnowsStarts (IsUnknownIn s) bytes n }
     {
         self.state.as_ref()?.failed_at()
+    }
+
+    /// Returns what may come next in the innermost open element, or what could have come before the event after which no
+    /// continuation is valid, if `invalid_since` returns one.
+    ///
+    /// It is stated on what is left of the pattern (`Expected`): an element or a datatype counts where its pattern stands.
+    /// After a text it is what may come behind that text; a blank text counts as nothing (section 6.2.7). Fails
+    /// only when this call, or an earlier one, is out of memory. Time and memory are linear in the number of patterns that
+    /// the matcher keeps. RELAX NG Specification, sections 6.2 and 6.2.7.
+    pub fn expected(&self) -> Result<Expected<'_>, OutOfMemory>
+        ensures { IfOk result (λ e. (bytes : List ℕ) (fed : HasBeenFed self.now bytes)
+            → MayFollow (reading_of self.now.grammar) self.now.matching.progress (next_of e) fed.events) }
+    {
+        let Some(state) = &self.state else {
+            return Err(OutOfMemory);
+        };
+        let Some(expected) = state.expected(self.alloc, &self.grammar)? else {
+            unreachable!();
+        };
+        Ok(expected)
     }
 
     /// Ends the document, and returns the verdict on it, and the validator for the next document.

@@ -18,5 +18,6 @@ pub use fault::DocumentFault;
 pub use placing::place_of;
 pub use rnc_model::FilePlace;
 pub use rncv_model::Verdict;
+pub use rng_expected::Expected;
 pub use rng_model::{SchemaFault as CompileFault, TypeSet};
 pub use validator::Validator;

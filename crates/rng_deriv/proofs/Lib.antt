@@ -4,3 +4,5 @@ mod ServedTables
 mod NamesOfOneKey
 mod KeptStarts
 mod PatternRenewal
+mod FollowingEvents
+mod BoxedLearning

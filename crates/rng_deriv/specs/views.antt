@@ -1,4 +1,6 @@
 -- Views of types, and invariants.
+pub mod Alternatives
+pub mod Followers
 pub mod Matchers
 pub mod PatternRenewal
 pub mod Serving

@@ -32,7 +32,7 @@ fn is_same(own: &Name, name: &Name) -> bool
 #[derive(Drop)]
 pub struct GrammarDerivatives<'a> {
     pub grammar: &'a SimpleGrammar,
-    pub learned: Learned,
+    pub learned: Box<Learned>,
 }
 
 impl<'a> Model for GrammarDerivatives<'a> {
@@ -48,9 +48,9 @@ impl<'a> Model for GrammarDerivatives<'a> {
 
     ghost coded = { Prim.hlevel (codes, classes.the_row.coded) };
 
-    ghost view = { λ d. (record { grammar = d.grammar.now; keys = d.learned.keys }, nodes_of d.learned) };
+    ghost view = { λ d. (record { grammar = d.grammar.now; keys = d.learned.value.keys }, nodes_of d.learned.value) };
 
-    ghost invariant = { λ d. Serves d.grammar.now d.learned };
+    ghost invariant = { λ d. Serves d.grammar.now d.learned.value };
 }
 
 impl<'a> GrammarDerivatives<'a> {
@@ -76,6 +76,7 @@ impl<'a> GrammarDerivatives<'a> {
             table,
             lost: false,
         };
+        let learned = Box::new(alloc, learned)?;
         Ok(GrammarDerivatives { grammar, learned })
     }
 }
@@ -86,31 +87,35 @@ impl Derivatives for GrammarDerivatives<'_> {
     ghost trees = { λ d. trees d.0.grammar d.1 };
 
     fn start(&self) -> Result<PatternNumber, OutOfMemory> {
-        if self.learned.lost {
+        let learned = &*self.learned;
+        if learned.lost {
             return Err(OutOfMemory);
         }
-        Ok(self.learned.numbers[self.grammar.start().0])
+        Ok(learned.numbers[self.grammar.start().0])
     }
 
     fn is_nullable(&self, pattern: PatternNumber) -> bool {
-        if self.learned.lost {
+        let learned = &*self.learned;
+        if learned.lost {
             return false;
         }
-        self.learned.table.facts(pattern).nullable
+        learned.table.facts(pattern).nullable
     }
 
     fn is_not_allowed(&self, pattern: PatternNumber) -> bool {
-        if self.learned.lost {
+        let learned = &*self.learned;
+        if learned.lost {
             return true;
         }
-        self.learned.table.is_not_allowed(pattern)
+        learned.table.is_not_allowed(pattern)
     }
 
     fn tests_strings(&self, pattern: PatternNumber) -> bool {
-        if self.learned.lost {
+        let learned = &*self.learned;
+        if learned.lost {
             return false;
         }
-        self.learned.table.facts(pattern).tests_strings
+        learned.table.facts(pattern).tests_strings
     }
 
     fn choice(
@@ -118,12 +123,13 @@ impl Derivatives for GrammarDerivatives<'_> {
         alloc: Global,
         members: &[PatternNumber],
     ) -> Result<PatternNumber, OutOfMemory> {
-        if self.learned.lost {
+        let learned = &mut *self.learned;
+        if learned.lost {
             return Err(OutOfMemory);
         }
-        self.learned.lost = true;
-        let number = self.learned.table.joined(alloc, members)?;
-        self.learned.lost = false;
+        learned.lost = true;
+        let number = learned.table.joined(alloc, members)?;
+        learned.lost = false;
         Ok(number)
     }
 
@@ -133,10 +139,10 @@ impl Derivatives for GrammarDerivatives<'_> {
         pattern: PatternNumber,
         text: &str,
     ) -> Result<PatternNumber, OutOfMemory> {
-        if self.learned.lost {
+        let learned = &mut *self.learned;
+        if learned.lost {
             return Err(OutOfMemory);
         }
-        let learned = &mut self.learned;
         learned.lost = true;
         let context = Context {
             alloc,
@@ -161,10 +167,10 @@ impl Derivatives for GrammarDerivatives<'_> {
         body: PatternNumber,
         attrs: &[Attr],
     ) -> Result<PatternNumber, OutOfMemory> {
-        if self.learned.lost {
+        let learned = &mut *self.learned;
+        if learned.lost {
             return Err(OutOfMemory);
         }
-        let learned = &mut self.learned;
         learned.lost = true;
         let context = Context {
             alloc,
@@ -184,14 +190,16 @@ impl Derivatives for GrammarDerivatives<'_> {
     }
 
     fn key(&self, name: &Name) -> NameKey {
-        self.learned.keys.key(name)
+        let learned = &*self.learned;
+        learned.keys.key(name)
     }
 
     fn is_key(&self, key: NameKey, name: &Name) -> bool {
-        if key.0 >= self.learned.keys.len() {
+        let learned = &*self.learned;
+        if key.0 >= learned.keys.len() {
             return false;
         }
-        is_same(self.learned.keys.name(key), name)
+        is_same(learned.keys.name(key), name)
     }
 
     fn starts(
@@ -200,10 +208,10 @@ impl Derivatives for GrammarDerivatives<'_> {
         pattern: PatternNumber,
         key: NameKey,
     ) -> Result<Ways, OutOfMemory> {
-        if self.learned.lost {
+        let learned = &mut *self.learned;
+        if learned.lost {
             return Err(OutOfMemory);
         }
-        let learned = &mut self.learned;
         learned.lost = true;
         count_start(alloc, &mut learned.known, &mut learned.starts);
         let numbers = learned.numbers.as_slice();
@@ -234,14 +242,14 @@ impl Derivatives for GrammarDerivatives<'_> {
         alloc: Global,
         held: &[PatternNumber],
     ) -> Result<Vec<PatternNumber>, OutOfMemory> {
-        if self.learned.lost {
+        let learned = &mut *self.learned;
+        if learned.lost {
             return Err(OutOfMemory);
         }
         // What is known of the patterns stays, if only the levels are crowded.
-        if !self.is_crowded() {
+        if learned.table.len() < learned.limit {
             return copied(alloc, held);
         }
-        let learned = &mut self.learned;
         learned.lost = true;
         let Selection {
             table,

@@ -1,10 +1,20 @@
 // What a matcher keeps, without its grammar.
-ghost use Rattle.std.specs.Prelude.{◌≡◌, IfSome};
+ghost use Rattle.std.specs.Prelude.{◌≡◌, ◌↔◌, List, IfOk, IfSome, None};
 ghost use Rattle.rng_model.specs.simple.Table.{Table};
-ghost use Rattle.rng_deriv.specs.views.Matchers.{HasFailedAt, failed_line, matching_in};
+ghost use Rattle.rng_model.specs.documents.PyxTrees as trees;
+ghost use Rattle.rng_model.specs.matching.GrammarMatching.{reading_of};
+ghost use Rattle.rng_expected.specs.views.Next.{next_of};
+ghost use Rattle.rng_deriv_events.specs.views.Positions.{failed_line};
+ghost use Rattle.rng_deriv.specs.views.Alternatives.{unless_lost};
+ghost use Rattle.rng_deriv.specs.views.Followers.{MayFollow};
+ghost use Rattle.rng_deriv.specs.views.Matchers.{HasFailedAt, HasRunOut, IsStateBy, Knows, matching_in};
 
 use crate::learned::Learned;
 use rng_deriv_events::Progress;
+use rng_deriv_table::PatternNumber;
+use rng_expected::{Expected, expected};
+use rng_model::{OutOfMemory, SimpleGrammar};
+use std::alloc::Global;
 
 /// What a matcher keeps of a document, and what it has learned about a grammar, without the grammar.
 ///
@@ -12,8 +22,18 @@ use rng_deriv_events::Progress;
 /// be kept between two of its pieces in a structure that cannot borrow the grammar, such as one that is passed to C.
 #[derive(Drop)]
 pub struct MatcherState {
-    pub(crate) learned: Learned,
+    pub(crate) learned: Box<Learned>,
     pub(crate) progress: Progress,
+}
+
+/// Returns the alternatives, or none after a call ran out of memory, since then nothing is known of the table.
+fn unless_lost(lost: bool, alternatives: &[PatternNumber]) -> &[PatternNumber]
+    ensures { result.now ≡ unless_lost lost alternatives.now }
+{
+    if lost {
+        return &[];
+    }
+    alternatives
 }
 
 impl MatcherState {
@@ -26,8 +46,33 @@ impl MatcherState {
         ensures failed { IfSome result (λ line. (grammar : Table) → HasFailedAt (matching_in grammar self.now) line) }
     {
         match self.progress {
-            Progress::Failed(line) => Some(line),
+            Progress::Failed { line, .. } => Some(line),
             Progress::Going { .. } | Progress::Lost => None,
         }
+    }
+
+    /// Returns what may come next in the innermost open element, or what could have come before the event after which no
+    /// continuation is valid. Returns `None` exactly if a call ran out of memory.
+    ///
+    /// It is stated on what is left of the pattern (`Expected`). After a string it is what may come behind that string; a
+    /// blank string counts as nothing. RELAX NG Specification, sections 6.2 and 6.2.7. Fails only when out of memory. Time
+    /// and memory are linear in the number of patterns of the table.
+    pub fn expected<'g>(
+        &self,
+        alloc: Global,
+        grammar: &'g SimpleGrammar,
+    ) -> Result<Option<Expected<'g>>, OutOfMemory>
+        requires { IsStateBy grammar.now self.now }
+        ensures expected { IfOk result (λ o. IfSome o (λ e. (es : List trees.Event) → Knows (matching_in grammar.now self.now) es
+            → MayFollow (reading_of grammar.now) self.now.progress (next_of e) es)) }
+        ensures none { IfOk result (λ o. (o ≡ None) ↔ HasRunOut (matching_in grammar.now self.now)) }
+    {
+        let Some(left) = self.progress.innermost() else {
+            return Ok(None);
+        };
+        let learned = &*self.learned;
+        let alternatives = unless_lost(learned.lost, left.alternatives);
+        let expected = expected(alloc, grammar, &learned.table, alternatives)?;
+        Ok(Some(expected))
     }
 }

@@ -1,7 +1,8 @@
 -- What is known of a document, event by event, and at its end.
 use Rattle.std.proofs.Common.{◌≡◌, ◌↔◌, ◌⊎◌, None, inl, inr, ◌&&◌, true, false, ℕ, List, [], ◌∷◌, ◌++◌, map, refl, sym, ap, ◌∙◌, subst, All}
-use Rattle.std.proofs.Common.{Bool, Contains, append_assoc}
+use Rattle.std.proofs.Common.{Bool, Contains, Some, append_assoc}
 use Rattle.std.specs.List.{list_all, list_any}
+use Rattle.std.proofs.lemmas.Option.{same_Some}
 use Rattle.std.proofs.lemmas.List.Elements.{All-push, All-nil, All-cons, All-contains, Contains-append_left, Contains-append_right, Contains-get_or}
 use Rattle.std.proofs.lemmas.List.Elements.{Contains-push}
 use Rattle.std.proofs.lemmas.List.Folds.{Any-from_list_any}
@@ -22,8 +23,11 @@ use Rattle.rng_deriv_events.specs.views.Numbers.{tree_of}
 use Rattle.rng_deriv_events.specs.views.Strings.{IsHeld}
 use Rattle.rng_model.specs.matching.Outcomes.{KnowsName, IsValidByReading}
 use Rattle.rng_deriv_laws.specs.plain.Outcomes.{FailsAt}
-use Rattle.rng_deriv_events.specs.views.Positions.{Leads, AddsStep, HasCome}
+use Rattle.rng_deriv_events.specs.views.LevelsLeft.{LevelLeft}
+use Rattle.rng_deriv_events.specs.views.Positions.{Leads, AddsStep, FailsWith, HasCome, IsKnown, IsLost, LeadTo, failed_line}
 use Rattle.rng_deriv_events.specs.views.OpenPositions.{OpenPosition}
+use Rattle.rng_deriv_events.specs.declared.progress.Progress.{Progress}
+use Rattle.rng_deriv_events.specs.declared.progress.Progress.TheVariants as progress
 use Rattle.rng_deriv_events.proofs.Numbers.{all_before}
 use Rattle.rng_deriv_events.proofs.LevelTests.{any_mapped}
 
@@ -114,27 +118,50 @@ module _ (g : Reading) where
       last = inr (es, e.kind, refl);
     }
 
-    pub fails : list_all (λ n. is_not_allowed (tree_of new n)) q.state.now ≡ true → FailsAt g (es ++ e ∷ []) e.line
-    fails all = record {
-      before = es;
-      kind = e.kind;
-      behind = [];
-      parts = refl;
-      cannot = λ more d is parts. no_levels_are_invalid g.grammar g.tests lead.matcher (es ++ e ∷ []) more stands
-          (subst (All (λ p. is_not_allowed p ≡ true)) (sym now) (all_pass is_not_allowed (tree_of new) q.state.now all)) d is parts;
-      known = come.known;
+    pub fails : (l : LevelLeft) → LeadTo g new l es → list_all (λ n. is_not_allowed (tree_of new n)) q.state.now ≡ true
+        → FailsWith g new l (es ++ e ∷ []) e.line
+    fails l left all = record {
+      fails = record {
+        before = es;
+        kind = e.kind;
+        behind = [];
+        parts = refl;
+        cannot = λ more d is parts. no_levels_are_invalid g.grammar g.tests lead.matcher (es ++ e ∷ []) more stands
+            (subst (All (λ p. is_not_allowed p ≡ true)) (sym now) (all_pass is_not_allowed (tree_of new) q.state.now all)) d is parts;
+        known = come.known;
+      };
+      left = left;
     }
 
   -- this stays so after one more event
-  pub fails_on : (es : List Event) (line : ℕ) (e : Event) → FailsAt g es line → FailsAt g (es ++ e ∷ []) line
-  fails_on es line e f = record {
-    before = f.before;
-    kind = f.kind;
-    behind = f.behind ++ e ∷ [];
-    parts = ap (λ l. l ++ e ∷ []) f.parts ∙ append_assoc f.before (record { line = line; kind = f.kind } ∷ f.behind) (e ∷ []);
-    cannot = f.cannot;
-    known = f.known;
-  }
+  pub fails_on : (trees : List (Simple ℕ)) (l : LevelLeft) (es : List Event) (line : ℕ) (e : Event) → FailsWith g trees l es line
+      → FailsWith g trees l (es ++ e ∷ []) line
+  fails_on trees l es line e w =
+      let f = w.fails in
+      record {
+        fails = record {
+          before = f.before;
+          kind = f.kind;
+          behind = f.behind ++ e ∷ [];
+          parts = ap (λ l. l ++ e ∷ []) f.parts ∙ append_assoc f.before (record { line = line; kind = f.kind } ∷ f.behind) (e ∷ []);
+          cannot = f.cannot;
+          known = f.known;
+        };
+        left = w.left;
+      }
+
+-- ---- what is known, by the line after which no continuation is valid
+
+module _ (g : Reading) (trees : List (Simple ℕ)) (es : List Event) where
+  pub fails_there : (p : Progress) (line : ℕ) → failed_line p ≡ Some line → IsKnown g trees p es → FailsAt g es line
+  fails_there (progress.Going p at) line f known = absurd (cc)
+  fails_there (progress.Failed at left) line f known = subst (FailsAt g es) (same_Some at line f) known.fails
+  fails_there progress.Lost line f known = absurd (cc)
+
+  pub names_there : (p : Progress) → failed_line p ≡ None → ¬ (IsLost p) → IsKnown g trees p es → All (λ (e : Event). KnowsName g.grammar e.kind) es
+  names_there (progress.Going p at) none kept come = come.known
+  names_there (progress.Failed at left) none kept fails = absurd (cc)
+  names_there progress.Lost none kept known = absurd (kept refl)
 
 -- ---- the end of a document
 

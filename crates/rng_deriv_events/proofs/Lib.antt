@@ -11,3 +11,4 @@ pub mod OpenStates
 pub mod LevelTests
 pub mod LevelRenewal
 pub mod KnownDocuments
+pub mod MarkedLevels

@@ -4,6 +4,7 @@ pub mod Basis
 pub mod Innermost
 pub mod KeptLevels
 pub mod Levels
+pub mod LevelsLeft
 pub mod Numbers
 pub mod OpenPositions
 pub mod Positions

@@ -3,6 +3,7 @@ ghost use Rattle.std.specs.Prelude.{◌≡◌, ℕ, List, [], OnOk, Some};
 ghost use Rattle.rng_deriv_laws.specs.plain.LevelStates.{EndsNow, EndsWith};
 ghost use Rattle.rng_deriv_events.specs.views.Basis.{HoldsBy, Keeps, reading_by};
 ghost use Rattle.rng_deriv_events.specs.views.LevelTable.{levels_in, numbers_in};
+ghost use Rattle.rng_deriv_events.specs.views.KeptLevels.{Grows};
 ghost use Rattle.rng_deriv_events.specs.views.OpenPositions.{IsHeldKept, IsStateKept, held_string, open_state, open_string};
 ghost use Rattle.rng_deriv_events.specs.views.States.{AddsState, EndsBy, EndsIf, state_of};
 ghost use Rattle.rng_deriv_events.specs.views.Strings.{IsHeld};
@@ -28,6 +29,7 @@ fn close_carried<D: Derivatives>(
     requires kept { HoldsBy IsStateKept (D.basis derivatives.old) (D.trees derivatives.old) state.old }
     requires steps { state.old.steps.items ≡ [] }
     ensures keeps { OnOk result (Keeps IsStateKept (D.basis derivatives.old) (D.basis derivatives.new) (D.trees derivatives.new) state.new) }
+    ensures levels { OnOk result (Grows (levels_in state.old.table) (levels_in state.new.table)) }
     ensures state { OnOk result (AddsState (EndsBy (reading_by (D.basis derivatives.old)) good.now (state_of (D.trees derivatives.old) (open_state state.old)))
         (D.trees derivatives.old) (D.trees derivatives.new) (open_state state.new)) }
 {
@@ -55,6 +57,7 @@ fn after_carried_elements<D: Derivatives>(
     requires kept { HoldsBy IsStateKept (D.basis derivatives.old) (D.trees derivatives.old) state.old }
     requires steps { state.old.steps.items ≡ [] }
     ensures keeps { OnOk result (Keeps IsStateKept (D.basis derivatives.old) (D.basis derivatives.new) (D.trees derivatives.new) state.new) }
+    ensures levels { OnOk result (Grows (levels_in state.old.table) (levels_in state.new.table)) }
     ensures ended { OnOk result (AddsState (EndsIf (reading_by (D.basis derivatives.old)) (EndsNow (reading_by (D.basis derivatives.old)))
         (state_of (D.trees derivatives.old) (open_state state.old))) (D.trees derivatives.old) (D.trees derivatives.new) (open_state state.new)) }
 {
@@ -70,6 +73,7 @@ pub fn after_elements<D: Derivatives>(
 ) -> Result<(), OutOfMemory>
     requires { HoldsBy IsStateKept (D.basis derivatives.old) (D.trees derivatives.old) state.old }
     ensures keeps { OnOk result (Keeps IsStateKept (D.basis derivatives.old) (D.basis derivatives.new) (D.trees derivatives.new) state.new) }
+    ensures levels { OnOk result (Grows (levels_in state.old.table) (levels_in state.new.table)) }
     ensures ended { OnOk result (AddsState (EndsIf (reading_by (D.basis derivatives.old)) (EndsNow (reading_by (D.basis derivatives.old)))
         (state_of (D.trees derivatives.old) (open_state state.old))) (D.trees derivatives.old) (D.trees derivatives.new) (open_state state.new)) }
 {
@@ -91,6 +95,7 @@ fn after_carried_string<D: Derivatives>(
     requires steps { state.old.steps.items ≡ [] }
     requires string { IsHeldKept state.old.table state.old.now (Some string.now) }
     ensures keeps { OnOk result (Keeps IsStateKept (D.basis derivatives.old) (D.basis derivatives.new) (D.trees derivatives.new) state.new) }
+    ensures levels { OnOk result (Grows (levels_in state.old.table) (levels_in state.new.table)) }
     ensures ended { OnOk result (AddsState (λ n. (t : List ℕ) → IsHeld (reading_by (D.basis derivatives.old)) (D.trees derivatives.old)
         (numbers_in (levels_in state.old.table) state.old.now.0) (Some (held_string state.old.table string.now)) t
         → EndsIf (reading_by (D.basis derivatives.old)) (EndsWith (reading_by (D.basis derivatives.old)) t)
@@ -117,6 +122,7 @@ fn after_string<D: Derivatives>(
     requires kept { HoldsBy IsStateKept (D.basis derivatives.old) (D.trees derivatives.old) state.old }
     requires string { IsHeldKept state.old.table state.old.now (Some string) }
     ensures keeps { OnOk result (Keeps IsStateKept (D.basis derivatives.old) (D.basis derivatives.new) (D.trees derivatives.new) state.new) }
+    ensures levels { OnOk result (Grows (levels_in state.old.table) (levels_in state.new.table)) }
     ensures ended { OnOk result (AddsState (λ n. (t : List ℕ) → IsHeld (reading_by (D.basis derivatives.old)) (D.trees derivatives.old)
         (numbers_in (levels_in state.old.table) state.old.now.0) (Some (held_string state.old.table string)) t
         → EndsIf (reading_by (D.basis derivatives.old)) (EndsWith (reading_by (D.basis derivatives.old)) t)
@@ -145,6 +151,7 @@ pub fn after_lone_string<D: Derivatives>(
     requires state { HoldsBy IsStateKept (D.basis derivatives.old) (D.trees derivatives.old) state.old }
     requires string { IsHeldKept state.old.table state.old.now string }
     ensures keeps { OnOk result (Keeps IsStateKept (D.basis derivatives.old) (D.basis derivatives.new) (D.trees derivatives.new) state.new) }
+    ensures levels { OnOk result (Grows (levels_in state.old.table) (levels_in state.new.table)) }
     ensures ended { OnOk result (AddsState (λ n. (t : List ℕ) → IsHeld (reading_by (D.basis derivatives.old)) (D.trees derivatives.old)
         (numbers_in (levels_in state.old.table) state.old.now.0) (open_string state.old.table string) t
         → EndsIf (reading_by (D.basis derivatives.old)) (EndsWith (reading_by (D.basis derivatives.old)) t)

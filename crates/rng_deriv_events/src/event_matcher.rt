@@ -54,11 +54,11 @@ fn table_of(alloc: Global, progress: Progress) -> LevelTable
 {
     match progress {
         Progress::Going { position, .. } => {
-            let Position { state, .. } = position;
+            let Position { state, .. } = Box::into_inner(position);
             let State { table, .. } = state;
             table
         }
-        Progress::Failed(_) | Progress::Lost => LevelTable::new(alloc, 0),
+        Progress::Failed { .. } | Progress::Lost => LevelTable::new(alloc, 0),
     }
 }
 
@@ -96,6 +96,7 @@ impl<D: Derivatives + Drop> EventMatcher<D> {
             has_begun: false,
             held: None,
         };
+        let position = Box::new(alloc, position)?;
         Ok(EventMatcher {
             alloc,
             derivatives,
@@ -150,15 +151,13 @@ impl<D: Derivatives + Drop> EventMatcher<D> {
     {
         match &self.progress {
             Progress::Going { position, line } => {
-                if some_end(
-                    &self.derivatives,
-                    position.state.table.numbers(position.state.now),
-                ) {
+                let state = &position.state;
+                if some_end(&self.derivatives, state.table.numbers(state.now)) {
                     return Ok(Outcome::Valid);
                 }
                 Ok(Outcome::Invalid(*line))
             }
-            Progress::Failed(line) => Ok(Outcome::Invalid(*line)),
+            Progress::Failed { line, .. } => Ok(Outcome::Invalid(*line)),
             Progress::Lost => Err(OutOfMemory),
         }
     }

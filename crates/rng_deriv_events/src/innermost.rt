@@ -1,34 +1,36 @@
-// What is left of the innermost open element.
+// What is left of the innermost open element, as far as it is known.
 ghost use Rattle.std.specs.Prelude.{◌≡◌, option_map};
-ghost use Rattle.rng_deriv_events.specs.views.Innermost.{innermost_of, is_within, level_in, level_left};
+ghost use Rattle.rng_deriv_events.specs.views.Innermost.{innermost_of};
+ghost use Rattle.rng_deriv_events.specs.views.LevelsLeft.{left_of, level_in, level_left};
 
+use crate::left::{Left, is_within, settled_level};
 use crate::position::Position;
 use crate::progress::Progress;
-use crate::state::State;
 use rng_deriv_table::PatternNumber;
 
-/// What is left of the innermost open element behind the last tag, or of the document if no element is open.
+/// What is left of the innermost open element, or of the document if no element is open.
 #[derive(Clone, Copy)]
 pub struct Innermost<'a> {
-    /// The alternatives for what remains: one of them takes it.
+    /// The alternatives for what remains, given that no further string comes: one of them takes it.
     pub alternatives: &'a [PatternNumber],
     /// Whether there is a child element already.
     pub has_begun: bool,
-    /// Whether a string has come since the last tag. The alternatives are those before it.
+    /// Whether a string has come since the last tag. If it is blank, it counts as nothing.
     pub has_string: bool,
     /// Whether an element is open.
     pub is_open: bool,
 }
 
 impl Progress {
-    /// Returns what is left of the innermost open element behind the last tag, before the string that has come since, if
-    /// one has. Returns `None` if no continuation is valid, and after a call that ran out of memory. Allocates nothing.
+    /// Returns what is left of the innermost open element. After an event that leaves nothing, returns what was left before
+    /// that event. Returns `None` after a call that ran out of memory. Allocates nothing.
     pub fn innermost(&self) -> Option<Innermost<'_>>
         ensures { option_map (λ i. level_left i.alternatives.now i.has_begun i.has_string i.is_open) result ≡ innermost_of self.now }
     {
         match self {
             Progress::Going { position, .. } => Some(innermost_in(position)),
-            Progress::Failed(_) | Progress::Lost => None,
+            Progress::Failed { left, .. } => Some(innermost_at(left)),
+            Progress::Lost => None,
         }
     }
 }
@@ -38,16 +40,21 @@ fn innermost_in(position: &Position) -> Innermost<'_>
     ensures { level_left result.alternatives.now result.has_begun result.has_string result.is_open ≡ level_in position.now }
 {
     Innermost {
-        alternatives: position.state.table.numbers_at(position.state.now),
+        alternatives: position.state.table.numbers_at(settled_level(position)),
         has_begun: position.has_begun,
         has_string: position.held.is_some(),
         is_open: is_within(&position.state),
     }
 }
 
-/// Returns whether an element is open.
-fn is_within(state: &State) -> bool
-    ensures { result ≡ is_within state.entry.now }
+/// Returns what was left.
+fn innermost_at(left: &Left) -> Innermost<'_>
+    ensures { level_left result.alternatives.now result.has_begun result.has_string result.is_open ≡ left_of left.now }
 {
-    !(state.carried.is_empty() && state.steps.is_empty())
+    Innermost {
+        alternatives: left.alternatives.as_slice(),
+        has_begun: left.has_begun,
+        has_string: left.has_string,
+        is_open: left.is_open,
+    }
 }

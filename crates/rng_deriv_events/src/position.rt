@@ -8,6 +8,8 @@ ghost use Rattle.rng_names.specs.plain.Keys.{Keys};
 ghost use Rattle.rng_deriv_laws.specs.plain.LevelEvents.{LevelMatcher, SettlesLevels};
 ghost use Rattle.rng_model.specs.matching.GrammarMatching.{Reading};
 ghost use Rattle.rng_deriv_events.specs.views.Basis.{HoldsBy, Keeps, reading_by};
+ghost use Rattle.rng_deriv_events.specs.views.KeptLevels.{Grows};
+ghost use Rattle.rng_deriv_events.specs.views.LevelTable.{levels_in};
 ghost use Rattle.rng_deriv_events.specs.views.Positions.{AddsStep, IsPositionOf};
 ghost use Rattle.rng_deriv_events.specs.views.OpenPositions.{IsPositionKept, IsStateKept, open_position, open_state};
 ghost use Rattle.rng_deriv_events.specs.views.States.{state_of};
@@ -37,6 +39,7 @@ fn settle(position: &mut Position)
         → SettlesLevels g m.held m.state (state_of trees (open_state position.new.state)) }
     ensures begun { position.new.has_begun ≡ position.old.has_begun }
     ensures held { position.new.held ≡ None }
+    ensures table { position.new.state.table ≡ position.old.state.table }
 {
     let Some(Held { blank, after }) = position.held.take() else {
         return;
@@ -59,6 +62,7 @@ pub fn after_start<D: Derivatives>(
     ensures keeps { OnOk result (Keeps IsPositionKept (D.basis derivatives.old) (D.basis derivatives.new) (D.trees derivatives.new) position.new) }
     ensures step { OnOk result (AddsStep (reading_by (D.basis derivatives.old)) (trees.a_start (name_of name.now) (map attribute_of attrs.now))
         (D.trees derivatives.old) (D.trees derivatives.new) (open_position position.old) (open_position position.new)) }
+    ensures levels { OnOk result (Grows (levels_in position.old.state.table) (levels_in position.new.state.table)) }
 {
     settle(position);
     enter(derivatives, alloc, &mut position.state, name, attrs)?;
@@ -77,6 +81,7 @@ pub fn after_text<D: Derivatives>(
     ensures keeps { OnOk result (Keeps IsPositionKept (D.basis derivatives.old) (D.basis derivatives.new) (D.trees derivatives.new) position.new) }
     ensures step { OnOk result (AddsStep (reading_by (D.basis derivatives.old)) (trees.a_string text.now)
         (D.trees derivatives.old) (D.trees derivatives.new) (open_position position.old) (open_position position.new)) }
+    ensures levels { OnOk result (Grows (levels_in position.old.state.table) (levels_in position.new.state.table)) }
 {
     let now = position.state.now;
     let held = hold(derivatives, alloc, &mut position.state.table, now, text)?;
@@ -94,6 +99,7 @@ pub fn after_end<D: Derivatives>(
     ensures keeps { OnOk result (Keeps IsPositionKept (D.basis derivatives.old) (D.basis derivatives.new) (D.trees derivatives.new) position.new) }
     ensures step { OnOk result (AddsStep (reading_by (D.basis derivatives.old)) trees.an_end
         (D.trees derivatives.old) (D.trees derivatives.new) (open_position position.old) (open_position position.new)) }
+    ensures levels { OnOk result (Grows (levels_in position.old.state.table) (levels_in position.new.state.table)) }
 {
     if position.has_begun {
         settle(position);

@@ -4,6 +4,8 @@ ghost use Rattle.rng_model.specs.documents.EventViews.{attribute_of};
 ghost use Rattle.rng_model.specs.names.NameViews.{name_of};
 ghost use Rattle.rng_deriv_laws.specs.plain.LevelStates.{StartsLevel};
 ghost use Rattle.rng_deriv_events.specs.views.Basis.{HoldsBy, Keeps, reading_by};
+ghost use Rattle.rng_deriv_events.specs.views.KeptLevels.{Grows};
+ghost use Rattle.rng_deriv_events.specs.views.LevelTable.{levels_in};
 ghost use Rattle.rng_deriv_events.specs.views.OpenPositions.{IsStateKept, open_state};
 ghost use Rattle.rng_deriv_events.specs.views.States.{AddsState, state_of};
 
@@ -46,6 +48,7 @@ pub fn enter<D: Derivatives>(
     ensures keeps { OnOk result (Keeps IsStateKept (D.basis derivatives.old) (D.basis derivatives.new) (D.trees derivatives.new) state.new) }
     ensures state { OnOk result (AddsState (StartsLevel (reading_by (D.basis derivatives.old)) (name_of name.now) (map attribute_of attrs.now)
         (state_of (D.trees derivatives.old) (open_state state.old))) (D.trees derivatives.old) (D.trees derivatives.new) (open_state state.new)) }
+    ensures levels { OnOk result (Grows (levels_in state.old.table) (levels_in state.new.table)) }
 {
     let step = step_for(derivatives, alloc, &mut state.table, state.now, name)?;
     let child = state.table.step(step).child;

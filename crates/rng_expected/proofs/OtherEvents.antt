@@ -113,18 +113,18 @@ module _ (g : Reading) (m : LevelMatcher) (es : List Event) (line : ℕ) (kind :
   settled none = as_blank (ap is_blank none)
 
 pub other_start : OtherStartIsInvalid
-other_start g m es line q xs at none =
-    leaves_nothing g m es line (a_start q xs) false ([] ∷ m.state.levels) at.stands
-    (at_start m.state (settled g m es line (a_start q xs) false [] at.held) starts refl refl)
+other_start g m k es line q xs stands settles none =
+    leaves_nothing g m es line (a_start q xs) false ([] ∷ k.levels) stands
+    (at_start k settles starts refl refl)
   where
-    opens_none : (i : ℕ) (p : Simple ℕ) (ys : List Attribute) (kids : Items) (ns : List Item) → slice_get m.state.now i ≡ Some p
+    opens_none : (i : ℕ) (p : Simple ℕ) (ys : List Attribute) (kids : Items) (ns : List Item) → slice_get k.now i ≡ Some p
         → Takes g p [] (an_element q ys kids ∷ ns) → ⊥
     opens_none i p ys kids ns found d =
         let h = begins_named q ys kids g ns d refl refl in
         let c = class_of_named g q h.0 (slice_get g.grammar.elements h.0) refl h.2 in
-        none c.0 (p, s_leaf h.0, contains_at m.state.now i p found, h.1, c.1) c.2
+        none c.0 (p, s_leaf h.0, contains_at k.now i p found, h.1, c.1) c.2
 
-    starts : StartsLevel g q xs m.state (record { now = []; levels = [] ∷ m.state.levels })
+    starts : StartsLevel g q xs k (record { now = []; levels = [] ∷ k.levels })
     starts = record {
       bodies = [];
       links = [];

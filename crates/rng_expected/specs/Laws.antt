@@ -7,7 +7,8 @@ use Rattle.rng_model.specs.names.Names.{In, Name, NameClass}
 use Rattle.rng_model.specs.simple.Tree.{Simple}
 use Rattle.rng_model.specs.documents.PyxTrees.{Event, a_start, an_end}
 use Rattle.rng_deriv_laws.specs.plain.Events.{kinds}
-use Rattle.rng_deriv_laws.specs.plain.LevelEvents.{LevelMatcher, StandsFor}
+use Rattle.rng_deriv_laws.specs.plain.LevelEvents.{LevelMatcher, SettlesLevels, StandsFor}
+use Rattle.rng_deriv_laws.specs.plain.LevelStates.{LevelState}
 use Rattle.rng_deriv_laws.specs.plain.Outcomes.{NoneIsValidAfter}
 use Rattle.rng_expected.specs.Expectations.{Ends, IsElementOf, SomeBegins}
 use Rattle.std.specs.Prelude.{Contains}
@@ -21,10 +22,11 @@ pub record StandsAtTag (g : Reading) (m : LevelMatcher) (es : List Event) : Type
 abbrev pub NoClassHolds : Reading → List (Simple ℕ) → Name → Type 0
 NoClassHolds g now q = (c : NameClass) → SomeBegins now (IsElementOf g.grammar c) → ¬ (In c q)
 
--- a start with another name, whatever its attributes
+-- a start with another name, whatever its attributes, behind the string that has come since the last tag, if one has
 abbrev pub OtherStartIsInvalid : Type 0
-OtherStartIsInvalid = (g : Reading) (m : LevelMatcher) (es : List Event) (line : ℕ) (q : Name) (xs : List Attribute) → StandsAtTag g m es
-    → NoClassHolds g m.state.now q → NoneIsValidAfter g (es ++ record { line = line; kind = a_start q xs } ∷ [])
+OtherStartIsInvalid = (g : Reading) (m : LevelMatcher) (settled : LevelState) (es : List Event) (line : ℕ) (q : Name) (xs : List Attribute)
+    → StandsFor g m (kinds es) → SettlesLevels g m.held m.state settled → NoClassHolds g settled.now q
+    → NoneIsValidAfter g (es ++ record { line = line; kind = a_start q xs } ∷ [])
 
 -- the end of an element of which no alternative may end
 abbrev pub EarlyEndIsInvalid : Type 0

@@ -1,6 +1,6 @@
 /* The program `rncv` by the C library:   by_library valid|check|simple FILES..
- * It allocates nothing itself, so each growth is one of the library. With `check` it asks what the files mention too. It answers as `rncv` does for files
- * of at most 4,096 bytes (docs/use/LANGUAGE.md). */
+ * It allocates nothing itself, so each growth is one of the library. With `check` it asks what the files mention too, and with `valid` what may come next
+ * behind the document. It answers as `rncv` does for files of at most 4,096 bytes (docs/use/LANGUAGE.md). */
 #include "rncv.h"
 
 #include <fcntl.h>
@@ -59,8 +59,10 @@ static int judged(rncv_schema *schema) {
     rncv_verdict verdict = {0, 0, 0};
     int32_t status = length < 0 ? RNCV_MISUSE : rncv_document_begin(schema);
     if (status == RNCV_DONE) {
+        size_t size = 0;
         int32_t fed = rncv_document_feed(schema, document, (size_t)length);
-        status = fed == RNCV_MEMORY ? fed : rncv_document_end(schema, &verdict);
+        int32_t asked = rncv_expected(schema, (uint8_t *)answer, sizeof answer, &size);
+        status = fed == RNCV_MEMORY || asked == RNCV_MEMORY ? RNCV_MEMORY : rncv_document_end(schema, &verdict);
     }
     if (status == RNCV_MEMORY) {
         return fails("rncv: out of memory\n");

@@ -54,7 +54,7 @@ class Streams(InC):
     def test_all_is_well(self):
         self.assertEqual(self.convert("-"), (0, PYX, b""))
         self.assertEqual(self.judge("--all", "a.rnc", "-", "d.xml"), (0, b"-: valid\nd.xml: valid\n", b""))
-        self.assertEqual(self.judge("a.rnc", "b.xml"), (1, b"b.xml:1:1: invalid: at <b>\n", b""))
+        self.assertEqual(self.judge("a.rnc", "b.xml"), (1, b"b.xml:1:1: invalid: <b> is not allowed here; expected <a>\n", b""))
 
     def test_no_input(self):
         for reported, streams in (("standard input is closed", {"closed": [0]}), ("Is a directory", {"stdin": self.folder_stream()}),
@@ -127,7 +127,7 @@ class Calls(WithCalls, InC):
         self.assertEqual(self.converted("d.xml", file=[-errno.EIO]), (4, b"", b"xml2pyx: Input/output error: d.xml\n"))
 
     def test_writes(self):
-        whole = b"b.xml:1:1: invalid: at <b>\nd.xml: valid\n"
+        whole = b"b.xml:1:1: invalid: <b> is not allowed here; expected <a>\nd.xml: valid\n"
         for plan in ([1], [-errno.EINTR, 3, -errno.EINTR, 100]):
             self.assertEqual(self.judged("b.xml", "d.xml", write=plan), (1, whole, b""), plan)
             self.assertEqual(self.converted("-", write=plan), (0, PYX, b""), plan)

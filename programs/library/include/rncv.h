@@ -252,6 +252,27 @@ int32_t rncv_events_invalid_since(rncv_schema *schema, uint64_t *place);
  * unchanged. Only one thread at a time may use the handle. */
 int32_t rncv_events_finish(rncv_schema *schema, rncv_verdict *verdict);
 
+/* Writes what may come next in the document in progress, of either kind, as text, to `buffer`, which has `size` bytes, and the text's length to `length`.
+ * If no continuation is valid, it is what could have come before the line, or the event, after which none is. The text has lines, each ended by a line feed,
+ * and does not end in a zero. A line may come several times, and there may be none. `buffer` may be NULL if `size` is 0.
+ *
+ *     element CLASS              an element with one of these names may start
+ *     text                       a text that is not blank may come
+ *     value LIBRARY NAME TEXT    it may be this text of this datatype
+ *     datatype LIBRARY NAME      it may be a text of this datatype, with parameters that are not written
+ *
+ * One space is between two fields, and a library may be empty. CLASS is `{URI}local`, a name; `{URI}*`, every name of a namespace, where the URI may be empty;
+ * `*`, every name; or one of the latter two with other classes whose names are left out, as `* except ( {URI}* {URI}local )`. Excepts nest at most twice. In a
+ * URI, a library, a name and a text, `\\`, `\n`, `\r`, `\t` and `\s` stand for a backslash, LF, CR, a tab and a space. A local name has no `}`.
+ *
+ * An element counts where its pattern stands, whether or not its content can be matched. After a text it is told what may
+ * come behind that text; a blank one counts as nothing.
+ *
+ * RNCV_SPACE: the text does not fit; nothing is written to `buffer`, and `length` is the number of bytes that it needs. RNCV_MEMORY: out of memory, or a call
+ * for the document was. RNCV_MISUSE: no document is in progress. After these two `length` is unchanged. The caller owns `buffer`. Only one thread at a time may
+ * use the handle. */
+int32_t rncv_expected(rncv_schema *schema, uint8_t *buffer, size_t size, size_t *length);
+
 /* Writes the simple form of the schema, as text, to `buffer`, which has `size` bytes, and the text's length to `length`. The text does not end in
  * a zero. `buffer` may be NULL if `size` is 0. Each call prints the form again.
  *

@@ -69,6 +69,64 @@ static void judges(rncv_schema *schema) {
     }
 }
 
+/* What may come next is this text, also where only its length is asked for. */
+static void check_expected(rncv_schema *schema, const char *wanted) {
+    uint8_t buffer[512];
+    size_t length = 99;
+    size_t size = strlen(wanted);
+    memset(buffer, '.', sizeof buffer);
+    CHECK(rncv_expected(schema, buffer, sizeof buffer, &length) == RNCV_DONE && length == size);
+    CHECK(memcmp(buffer, wanted, size) == 0 && buffer[size] == '.');
+    if (size > 0) {
+        memset(buffer, '.', sizeof buffer);
+        length = 99;
+        CHECK(rncv_expected(schema, NULL, 0, &length) == RNCV_SPACE && length == size);
+        CHECK(rncv_expected(schema, buffer, size - 1, &length) == RNCV_SPACE && length == size && buffer[0] == '.');
+        CHECK(rncv_expected(schema, buffer, size, &length) == RNCV_DONE && memcmp(buffer, wanted, size) == 0 && buffer[size] == '.');
+    }
+}
+
+static void expects(rncv_schema *schema) {
+    rncv_verdict verdict = {7, 7, 7};
+    CHECK(rncv_events_begin(schema) == RNCV_DONE);
+    check_expected(schema, "element {}book\n");
+    begin_book(schema);
+    check_expected(schema, "element {}title\n");
+    CHECK(start(schema, 20, "title") == RNCV_DONE);
+    check_expected(schema, "text\n");
+    CHECK(rncv_events_end(schema, 30) == RNCV_DONE);
+    check_expected(schema, "element {}title\nelement {}part\n");
+    /* what could have come before the start that makes the document invalid */
+    CHECK(start(schema, 40, "author") == RNCV_DONE);
+    check_expected(schema, "element {}title\nelement {}part\n");
+    CHECK(rncv_events_end(schema, 50) == RNCV_DONE && rncv_events_end(schema, 60) == RNCV_DONE);
+    check_expected(schema, "element {}title\nelement {}part\n");
+    check_finish(schema, RNCV_INVALID, 40);
+    /* the same for PYX */
+    CHECK(rncv_document_begin(schema) == RNCV_DONE);
+    check_expected(schema, "element {}book\n");
+    CHECK(feed(schema, "(book\nAid 1\n(part\n)part\n") == RNCV_DONE);
+    check_expected(schema, "element {}title\n");
+    CHECK(rncv_document_end(schema, &verdict) == RNCV_DONE && verdict.kind == RNCV_BROKEN);
+}
+
+/* All that is written of names, values and datatypes. */
+static void expects_all(void) {
+    rncv_schema schema = RNCV_NOTHING;
+    CHECK(compile("namespace p = \"a }\" element r { element (* - ((p:* - p:x) | b)) { empty } | element (p:c | d | (* - (p:* | d))) { empty } }", &schema)
+          == RNCV_DONE);
+    CHECK(rncv_events_begin(&schema) == RNCV_DONE && start(&schema, 1, "r") == RNCV_DONE);
+    check_expected(&schema, "element {a\\s}}c\nelement {}d\nelement * except ( {a\\s}}* {}d )\n"
+                            "element * except ( {a\\s}}* except ( {a\\s}}x ) {}b )\n");
+    CHECK(compile("element r { element a { xsd:integer | \"x \\x{A}\\x{9}\\x{5C}\" | xsd:string { maxLength = \"1\" } } | list { \"y\" } }", &schema) == RNCV_DONE);
+    CHECK(rncv_events_begin(&schema) == RNCV_DONE && start(&schema, 1, "r") == RNCV_DONE);
+    check_expected(&schema, "element {}a\ntext\n");
+    CHECK(start(&schema, 2, "a") == RNCV_DONE);
+    check_expected(&schema, "text\nvalue  token x\\s\\n\\t\\\\\n"
+                            "datatype http://www.w3.org/2001/XMLSchema-datatypes string\ndatatype http://www.w3.org/2001/XMLSchema-datatypes integer\n");
+    rncv_schema_free(&schema);
+}
+
 /* The namespaces of elements and attributes, and many attributes. */
 static void names(void) {
     static char many[40][16];
@@ -250,6 +308,8 @@ int main(void) {
     rncv_schema schema = RNCV_NOTHING;
     CHECK(compile(BOOK, &schema) == RNCV_DONE);
     judges(&schema);
+    expects(&schema);
+    expects_all();
     names();
     refuses(&schema);
     copies(&schema);

@@ -17,6 +17,7 @@ static void on_nothing(rncv_schema *schema) {
     CHECK(rncv_document_end(schema, &verdict) == RNCV_MISUSE);
     CHECK(verdict.kind == 7 && verdict.clause == 7 && verdict.line == 7);
     CHECK(rncv_simple(schema, buffer, sizeof buffer, &length) == RNCV_MISUSE && length == 99);
+    CHECK(rncv_expected(schema, buffer, sizeof buffer, &length) == RNCV_MISUSE && length == 99);
     CHECK(memcmp(buffer, "....", 4) == 0);
     CHECK(schema->hidden == NULL);
 }
@@ -25,9 +26,11 @@ static void on_a_schema(void) {
     rncv_schema schema = RNCV_NOTHING;
     rncv_verdict verdict = {7, 7, 7};
     uint64_t line = 99;
+    size_t length = 99;
 
     CHECK(compile("element a { empty }", &schema) == RNCV_DONE);
     CHECK(feed(&schema, "(a\n") == RNCV_MISUSE);
+    CHECK(rncv_expected(&schema, NULL, 0, &length) == RNCV_MISUSE && length == 99);
     CHECK(rncv_document_invalid_since(&schema, &line) == RNCV_MISUSE && line == 99);
     CHECK(rncv_document_end(&schema, &verdict) == RNCV_MISUSE && verdict.kind == 7);
     /* it still works */

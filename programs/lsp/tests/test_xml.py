@@ -41,20 +41,20 @@ class Documents(WithServer):
 
     def test_what_stands_at_the_place(self):
         for text, place, words in (
-                ("<letter>\n <subject/></letter>", (2, 1, 2, 9), "at <subject>"),
-                ("<letter\n to='c'><title>1</title><body/></letter>", (2, 1, 2, 7), "at attribute to"),
-                ("<letter to='a' at = 'c'><title>1</title><body/></letter>", (1, 15, 1, 23), "at attribute at"),
-                ("<letter other='\U0001F600' to='b'/>", (1, 8, 1, 18), "at attribute other"),
-                ("<letter><title>\n <!-- \U0001F600 -->\U0001F600\n</title><body/></letter>", (2, 12, 2, 14), 'at text "\U0001F600\\n"'),
-                ("<letter><title>1<![CDATA[\U0001F600]]>x</title><body/></letter>", (1, 15, 1, 31), 'at text "1\U0001F600x"'),
-                ("<letter><title>&#120;&amp;</title><body/></letter>", (1, 15, 1, 26), 'at text "x&"'),
-                ("<letter>text<title>1</title><body/></letter>", (1, 8, 1, 12), 'at text "text"'),
-                ("<letter><title>1</title>\n</letter >", (2, 0, 2, 10), "at the end of <letter>"),
-                ("<letter/>", (1, 0, 1, 7), "at the end of <letter>"),
-                ("<letter><title>1</title><body/><last/></letter>", (1, 31, 1, 36), "at the end of <last>"),
-                ("<letter><title>1</title><empty>x</empty><body/></letter>", (1, 31, 1, 32), 'at text "x"'),
-                ("<other/>", (1, 0, 1, 6), "at <other>"),
-                ("<p:letter xmlns:p='u'/>", (1, 0, 1, 9), "at <p:letter>")):
+                ("<letter>\n <subject/></letter>", (2, 1, 2, 9), "<subject> is not allowed here; expected <title>"),
+                ("<letter\n to='c'><title>1</title><body/></letter>", (2, 1, 2, 7), 'attribute to of <letter> is wrong ("c"); expected "a" or "b"'),
+                ("<letter to='a' at = 'c'><title>1</title><body/></letter>", (1, 15, 1, 23), 'attribute at of <letter> is no xsd:integer ("c")'),
+                ("<letter other='\U0001F600' to='b'/>", (1, 8, 1, 18), "attribute other is not allowed in <letter>; expected at"),
+                ("<letter><title>\n <!-- \U0001F600 -->\U0001F600\n</title><body/></letter>", (2, 12, 2, 14), 'the text of <title> is no xsd:integer ("\U0001F600\\n")'),
+                ("<letter><title>1<![CDATA[\U0001F600]]>x</title><body/></letter>", (1, 15, 1, 31), 'the text of <title> is no xsd:integer ("1\U0001F600x")'),
+                ("<letter><title>&#120;&amp;</title><body/></letter>", (1, 15, 1, 26), 'the text of <title> is no xsd:integer ("x&")'),
+                ("<letter>text<title>1</title><body/></letter>", (1, 8, 1, 12), 'text is not allowed in <letter> ("text"); expected <title>'),
+                ("<letter><title>1</title>\n</letter >", (2, 0, 2, 10), "<letter> ends too early: expected <body> or <empty>"),
+                ("<letter/>", (1, 0, 1, 7), "<letter> ends too early: expected <title>"),
+                ("<letter><title>1</title><body/><last/></letter>", (1, 31, 1, 36), "<last> ends too early: expected <x>"),
+                ("<letter><title>1</title><empty>x</empty><body/></letter>", (1, 31, 1, 32), 'text is not allowed in <empty> ("x"); expected the end of <empty>'),
+                ("<other/>", (1, 0, 1, 6), "<other> is not allowed here; expected <letter>"),
+                ("<p:letter xmlns:p='u'/>", (1, 0, 1, 9), "<p:letter> is not allowed here; expected <letter>")):
             self.assertEqual(self.one(text), ("invalid", place, f"invalid: {words}"), text)
 
     def test_ids(self):
@@ -75,9 +75,9 @@ class Documents(WithServer):
             self.assertEqual(place, (4, 3 + len(before.encode("utf-16-le")) // 2, 4, 5 + len(before.encode("utf-16-le")) // 2))
 
     def test_entities_and_defaults(self):
-        self.assertEqual(self.one("<!DOCTYPE letter [<!ENTITY e '<b/>'>]>\n<letter>&e;</letter>"), ("invalid", (2, 8, 2, 11), "invalid: at <b>"))
+        self.assertEqual(self.one("<!DOCTYPE letter [<!ENTITY e '<b/>'>]>\n<letter>&e;</letter>"), ("invalid", (2, 8, 2, 11), "invalid: <b> is not allowed here; expected <title>"))
         self.assertEqual(self.one("<!DOCTYPE letter [<!ATTLIST letter to CDATA 'c'>]>\n<letter\n><title>1</title><body/></letter>"),
-                         ("invalid", (2, 0, 2, 7), "invalid: at attribute to"))
+                         ("invalid", (2, 0, 2, 7), 'invalid: attribute to of <letter> is wrong ("c"); expected "a" or "b"'))
 
     def test_not_well_formed(self):
         self.assertEqual(self.one("<letter><title>5</title>\n<body></letter>"),
@@ -104,9 +104,9 @@ class Documents(WithServer):
 
     def test_malformed(self):
         self.assertEqual(self.one("<p:letter/>")[:2], ("P11", (1, 0, 1, 9)))
-        code, place, words = self.found(MODEL + "<a>" * 513 + "</a>" * 513)[0]
-        self.assertEqual((code, place), ("P10", (1, 512 * 3, 1, 512 * 3 + 2)))
-        self.assertIn("more than 512 elements are open", words)
+        code, place, words = self.found(MODEL + "<a>" * 10_001 + "</a>" * 10_001)[0]
+        self.assertEqual((code, place), ("outside", (1, 30_000, 1, 30_002)))
+        self.assertIn("more than 10,000 elements are open", words)
 
     def test_encodings_that_are_declared(self):
         for encoding in ("ISO-8859-1", "UTF-16", "utf-8", "EUC-JP", "Shift_JIS", "GB18030", "bogus"):
@@ -114,13 +114,13 @@ class Documents(WithServer):
                 declaration = f"<?xml {before}{encoding}{after}?>"
                 found = self.found(declaration + '<?xml-model href="s.rnc"?><letter><!--\u00e9\u3042--><b/></letter>')
                 at = len(declaration) + 43
-                self.assertEqual(found, [("invalid", (0, at, 0, at + 2), "invalid: at <b>")], declaration)
+                self.assertEqual(found, [("invalid", (0, at, 0, at + 2), "invalid: <b> is not allowed here; expected <title>")], declaration)
                 self.assertEqual(self.found(declaration + "<letter>\u00e9\u3042</letter>"), [])
         self.assertEqual(self.found('<?xml version="1.0"\r\nencoding=\n"EUC-JP"?>\n<?xml-model href="s.rnc"?><b/>'),
-                         [("invalid", (3, 26, 3, 28), "invalid: at <b>")])
-        self.assertEqual(self.found("\ufeff<?xml-model href='s.rnc'?><b/>"), [("invalid", (0, 27, 0, 29), "invalid: at <b>")])
+                         [("invalid", (3, 26, 3, 28), "invalid: <b> is not allowed here; expected <letter>")])
+        self.assertEqual(self.found("\ufeff<?xml-model href='s.rnc'?><b/>"), [("invalid", (0, 27, 0, 29), "invalid: <b> is not allowed here; expected <letter>")])
         self.assertEqual(self.found("\ufeff<?xml version='1.0' encoding='EUC-JP'?><?xml-model href='s.rnc'?><b/>"),
-                         [("invalid", (0, 66, 0, 68), "invalid: at <b>")])
+                         [("invalid", (0, 66, 0, 68), "invalid: <b> is not allowed here; expected <letter>")])
 
     def test_declarations_that_are_malformed(self):
         for words in ('version="1.0" encoding=""', 'version="1.0" encoding="\u00e9"', 'version="1.0" encoding="1"', 'encoding="EUC-JP"',
@@ -161,7 +161,7 @@ class Documents(WithServer):
     def test_a_long_document(self):
         self.write("s.rnc", SCHEMA)
         code, place, words = self.one("<list>\n" + "<item at='1'>text</item>\n" * 2_000 + "<item at='x'/>\n</list>")
-        self.assertEqual((place, words), ((2002, 6, 2002, 12), "invalid: at attribute at"))
+        self.assertEqual((place, words), ((2002, 6, 2002, 12), 'invalid: attribute at of <item> is no xsd:integer ("x")'))
 
 
 class Schemas(WithServer):

@@ -38,10 +38,11 @@ from typing import Any, BinaryIO, NamedTuple, NoReturn, Optional, Type, TypeVar,
 
 from . import _events, _schema_files, _xml
 from ._events import Attributes, EventVerdict, TreeVerdict
+from ._expected import Datatype, Expected, NameClass, Value, expected_of
 from ._xml import XmlVerdict
 
-__all__ = ["Document", "EventVerdict", "Events", "LibraryError", "Place", "SchemaError", "TreeVerdict", "Validator", "Verdict", "XmlVerdict", "clause_title",
-           "compile", "datatype_place", "mentions", "version"]
+__all__ = ["Datatype", "Document", "EventVerdict", "Events", "Expected", "LibraryError", "NameClass", "Place", "SchemaError", "TreeVerdict", "Validator", "Value",
+           "Verdict", "XmlVerdict", "clause_title", "compile", "datatype_place", "mentions", "version"]
 __version__ = "0.9.0"
 
 Bytes = Union[bytes, bytearray, memoryview]
@@ -122,11 +123,14 @@ class Verdict:
     `kind` is "valid", "invalid" or "malformed". `clause` is the number of the clause P1 to P13 that a malformed document breaks, otherwise 0. `line`
     counts from 1. For an invalid document it is the line after which no continuation is valid. For a malformed one it is the line of the clause, or 0
     if the document has no line. For a valid one it is 0.
+
+    `expected` is what could have come before that line, if the line was known before the end of an invalid document, and otherwise None.
     """
 
     kind: str
     clause: int = 0
     line: int = 0
+    expected: Optional[Expected] = dataclasses.field(default=None, compare=False, repr=False)
 
     @property
     def valid(self) -> bool:
@@ -285,7 +289,7 @@ class Validator:
             return TreeVerdict(verdict.kind)
         tags = ((at, element) for at, element in _events.walk(root) if at in ("start", "end"))
         at, element = next(itertools.islice(tags, verdict.place - 1, None))
-        return TreeVerdict(verdict.kind, element, at)
+        return TreeVerdict(verdict.kind, element, at, verdict.expected)
 
     def share(self) -> Validator:
         """Returns another validator for the same schema, for example for another thread. The schema is not copied. Close each of the two separately.
@@ -393,6 +397,16 @@ class _InProgress:
                 self._validator._document = None
                 self._validator._drop()
 
+    def expected(self) -> Expected:
+        """Returns what may come next in the innermost element that is open. Once `invalid_since` is known, it is what could have come before that line or event.
+
+        An element counts where its pattern stands, whether or not its content can be matched. After a text it is what may come
+        behind that text; a blank one counts as nothing. MemoryError: out of memory.
+        """
+        with self._validator._lock:
+            self._want_progress()
+            return expected_of(_written_by(self._validator._library.rncv_expected, self._validator._handle))
+
     def __exit__(self, kind: Optional[Type[BaseException]], error: Optional[BaseException], trace: Optional[TracebackType]) -> None:
         self.close()
 
@@ -408,15 +422,17 @@ class _InProgress:
         if not self._is_in_progress():
             raise ValueError("the document has ended")
 
-    def _reported_by(self, call: Callable[[_Schema, _Verdict], int]) -> _Verdict:
-        """Ends the document by this call of the library, and returns what it reports."""
-        reported = _Verdict()
+    def _reported_by(self, call: Callable[[_Schema, _Verdict], int], since: Callable[[], Optional[int]]) -> tuple[_Verdict, Optional[Expected]]:
+        """Ends the document by this call of the library. Returns what it reports, and what could have come in the place of what made the document invalid."""
+        reported, expected = _Verdict(), None
         with self._validator._lock:
-            self._want_progress()
+            if since() is not None:
+                with contextlib.suppress(MemoryError):
+                    expected = self.expected()
             status = call(self._validator._handle, reported)
             self._validator._document = None
         _want_done(status)
-        return reported
+        return reported, expected if _KINDS[reported.kind] == "invalid" else None
 
     def _since_by(self, call: Callable[[_Schema, ctypes.c_uint64], int]) -> Optional[int]:
         """The line or the place that this call of the library reports."""
@@ -464,8 +480,8 @@ class Document(_InProgress):
 
     def finish(self) -> Verdict:
         """Ends the document and returns the verdict. The validator can judge the next one. MemoryError: out of memory; the document has ended."""
-        reported = self._reported_by(self._validator._library.rncv_document_end)
-        return Verdict(_KINDS[reported.kind], reported.clause, reported.line)
+        reported, expected = self._reported_by(self._validator._library.rncv_document_end, self.invalid_since)
+        return Verdict(_KINDS[reported.kind], reported.clause, reported.line, expected)
 
     def __enter__(self) -> Document:
         with self._validator._lock:
@@ -520,8 +536,8 @@ class Events(_InProgress):
 
     def finish(self) -> EventVerdict:
         """Ends the document and returns the verdict. The validator can judge the next one. MemoryError: out of memory; the document has ended."""
-        reported = self._reported_by(self._validator._library.rncv_events_finish)
-        return EventVerdict(_KINDS[reported.kind], reported.line or None)
+        reported, expected = self._reported_by(self._validator._library.rncv_events_finish, self.invalid_since)
+        return EventVerdict(_KINDS[reported.kind], reported.line or None, expected)
 
     def __enter__(self) -> Events:
         with self._validator._lock:
@@ -934,6 +950,7 @@ def _typed(library: ctypes.CDLL) -> ctypes.CDLL:
         ("rncv_events_end", [schema, ctypes.c_uint64], status),
         ("rncv_events_invalid_since", [schema, ctypes.POINTER(ctypes.c_uint64)], status),
         ("rncv_events_finish", [schema, ctypes.POINTER(_Verdict)], status),
+        ("rncv_expected", [schema, ctypes.c_char_p, size, ctypes.POINTER(size)], status),
         ("rncv_simple", [schema, ctypes.c_char_p, size, ctypes.POINTER(size)], status),
         ("rncv_clause_title", [ctypes.c_char, ctypes.c_int32], ctypes.c_char_p),
         ("rncv_version", [], ctypes.c_char_p),

@@ -23,11 +23,13 @@ SCHEMA = {"s.rnc": b'element a { attribute x { "1" }, element b { "two" }* }'}
 GOOD = b"<a x='1'>\n <b>two</b>\n</a>\n"
 ROWS = [
     (GOOD, rncv.XmlVerdict("valid"), "valid"),
-    (b"<a x='1'>\n <c/></a>", rncv.XmlVerdict("invalid", 2, 2, "element", "c", 0, "invalid: at <c>"), "2:2: invalid: at <c>"),
-    (b"<a x='2'/>", rncv.XmlVerdict("invalid", 1, 1, "attribute", "x", 0, "invalid: at attribute x"), "1:1: invalid: at attribute x"),
-    (b"<a x='1'><b>three</b></a>", rncv.XmlVerdict("invalid", 1, 13, "text", "three", 0, 'invalid: at text "three"'), '1:13: invalid: at text "three"'),
-    (b"<a x='1'><b/></a>", rncv.XmlVerdict("invalid", 1, 10, "end", "b", 0, "invalid: at the end of <b>"), "1:10: invalid: at the end of <b>"),
-    ("<a x='é'/>".encode(), rncv.XmlVerdict("invalid", 1, 1, "attribute", "x", 0, "invalid: at attribute x"), "1:1: invalid: at attribute x"),
+    (b"<a x='1'>\n <c/></a>", rncv.XmlVerdict("invalid", 2, 2, "element", "c", 0, "invalid: <c> is not allowed here; expected <b>"), "2:2: invalid: <c> is not allowed here; expected <b>"),
+    (b"<a x='2'/>", rncv.XmlVerdict("invalid", 1, 1, "attribute", "x", 0, 'invalid: attribute x of <a> is wrong ("2"); expected "1"'), '1:1: invalid: attribute x of <a> is wrong ("2"); expected "1"'),
+    (b"<a x='1'><b>three</b></a>", rncv.XmlVerdict("invalid", 1, 13, "text", "three", 0, 'invalid: the text of <b> is wrong ("three"); expected "two"'),
+     '1:13: invalid: the text of <b> is wrong ("three"); expected "two"'),
+    (b"<a x='1'><b/></a>", rncv.XmlVerdict("invalid", 1, 10, "end", "b", 0, 'invalid: <b> ends too early: expected "two"'), '1:10: invalid: <b> ends too early: expected "two"'),
+    ("<a x='é'/>".encode(), rncv.XmlVerdict("invalid", 1, 1, "attribute", "x", 0, 'invalid: attribute x of <a> is wrong ("é"); expected "1"'),
+     '1:1: invalid: attribute x of <a> is wrong ("é"); expected "1"'),
 ]
 
 
@@ -55,8 +57,8 @@ class Datatypes(unittest.TestCase):
 
     def test_documents(self):
         with rncv.compile(self.SCHEMA, datatypes="xml-schema") as validator, validator.share() as other:
-            for document, told in ((b"<a n='x' r=' x '>de-AT</a>", "valid"), (b"<a n='x'>de_AT</a>", '1:10: invalid: at text "de_AT"'),
-                                   (b"<a n='x'><b> </b></a>", "1:14: invalid: at the end of <b>"), (b"<a n='x' r='y'>de</a>", '1:1: invalid: no ID "y"')):
+            for document, told in ((b"<a n='x' r=' x '>de-AT</a>", "valid"), (b"<a n='x'>de_AT</a>", '1:10: invalid: the text of <a> is no xsd:language ("de_AT")'),
+                                   (b"<a n='x'><b> </b></a>", "1:14: invalid: <b> ends too early: expected xsd:NMTOKENS"), (b"<a n='x' r='y'>de</a>", '1:1: invalid: no ID "y"')):
                 self.assertEqual([str(each.validate_xml(document)) for each in (validator, other)], [told] * 2, document)
             self.assertTrue(validator.validate_xml(b"<a n='x' r='y'>de</a>", ids=False))
 
@@ -172,7 +174,7 @@ class Judged(unittest.TestCase):
     def test_earlier(self):
         """A document that is malformed may have been invalid before."""
         verdict = self.validator.validate_xml(b"<a x='1'>\n <c/><b")
-        self.assertEqual((verdict.kind, verdict.earlier), ("malformed", rncv.XmlVerdict("invalid", 2, 2, "element", "c", 0, "invalid: at <c>")))
+        self.assertEqual((verdict.kind, verdict.earlier), ("malformed", rncv.XmlVerdict("invalid", 2, 2, "element", "c", 0, "invalid: <c> is not allowed here; expected <b>")))
         outside = b"<!DOCTYPE a [<!ENTITY e SYSTEM 'e.xml'>]><a x='2'><b>&e;</b></a>"
         self.assertEqual((self.validator.validate_xml(outside).kind, self.validator.validate_xml(outside).earlier.at), ("outside", "attribute"))
         for data in (GOOD, GOOD[:-3], b"<a x='2'/>", b"<"):
@@ -215,7 +217,7 @@ class Judged(unittest.TestCase):
 
     def test_long_documents(self):
         body = b" <b>two</b>\n" * 300_000
-        for document, line in ((b"<a x='1'>\n" + body + b"</a>", "valid"), (b"<a x='1'>\n" + body + b"<c/></a>", "300002:1: invalid: at <c>")):
+        for document, line in ((b"<a x='1'>\n" + body + b"</a>", "valid"), (b"<a x='1'>\n" + body + b"<c/></a>", "300002:1: invalid: <c> is not allowed here; expected <b>")):
             self.path.write_bytes(document)
             with open(self.path, "rb") as file:
                 for given in (document, bytearray(document), self.path, file):
@@ -271,8 +273,8 @@ class Judged(unittest.TestCase):
         files = {"m.rnc": b'include "p.rnc" start = element a { x }', "p.rnc": b'x = attribute x { "odd one" }, attribute y { "odd two" }'}
         with rncv.compile(files) as validator:
             for own in (validator, validator.share()):
-                self.assertEqual(str(own.validate_xml(b"<a x='odd one' y='3'/>")), "1:1: invalid: at attribute y")
-            self.assertEqual(str(validator.share().validate_xml(b"<a x='3' y='odd two'/>")), "1:1: invalid: at attribute x")
+                self.assertEqual(str(own.validate_xml(b"<a x='odd one' y='3'/>")), '1:1: invalid: attribute y of <a> is wrong ("3"); expected "odd two"')
+            self.assertEqual(str(validator.share().validate_xml(b"<a x='3' y='odd two'/>")), '1:1: invalid: attribute x of <a> is wrong ("3"); expected "odd one"')
 
     def test_verdicts_are_values(self):
         verdict = self.validator.validate_xml(b"<c/>")
@@ -281,7 +283,7 @@ class Judged(unittest.TestCase):
         # a verdict outlives the next call and the validator
         self.assertTrue(self.validator.validate_xml(GOOD))
         self.validator.close()
-        self.assertEqual(str(verdict), "1:1: invalid: at <c>")
+        self.assertEqual(str(verdict), "1:1: invalid: <c> is not allowed here; expected <a>")
 
 
 class Hints(unittest.TestCase):

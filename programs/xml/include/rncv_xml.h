@@ -12,7 +12,7 @@
  *     rncv_xml_fault_free(&fault);
  *     rncv_xml_judge_free(&judge);
  *
- * Nothing in this library is proved. The verdict on the PYX that it makes of the XML comes from librncv, which is.
+ * Nothing in this library is proved. The verdict on the events that libxml2 makes of the XML comes from librncv, which is.
  *
  * Statuses. They are those of rncv.h, and RNCV_XML_UNREAD. The comment of each function names those that it returns besides RNCV_DONE. Each function that
  * returns a status returns RNCV_MISUSE, and changes nothing but `answer`, if a pointer is NULL for which a comment does not allow it, or if a handle does
@@ -95,8 +95,8 @@ enum {
     RNCV_XML_FAILED = 0,    /* it could not be read, and the message says why; there is no verdict */
     RNCV_XML_VALID = 1,
     RNCV_XML_INVALID = 2,
-    RNCV_XML_MALFORMED = 3, /* it is not well-formed XML, or no document of the profile (`clause`) */
-    RNCV_XML_OUTSIDE = 4    /* something in it is outside the profile */
+    RNCV_XML_MALFORMED = 3, /* it is not well-formed XML, or breaks Namespaces in XML (`clause`) */
+    RNCV_XML_OUTSIDE = 4    /* something in it is outside the profile, or over a limit: 10,000 open elements, 512 MiB that are held of it */
 };
 
 /* What is at the place of an invalid document. */
@@ -112,7 +112,7 @@ enum {
 typedef struct rncv_xml_answer {
     int32_t verdict;
     int32_t at;
-    int32_t clause;      /* the clause P1 to P13 that a malformed document breaks; 0: none */
+    int32_t clause;      /* the clause P6, P11 or P12 that a malformed document breaks by its names; 0: none */
     int32_t error;       /* RNCV_XML_FAILED: the `errno` of the file; 0: none */
     uint64_t line;       /* the place, from 1, in characters; 0: there is none */
     uint64_t column;

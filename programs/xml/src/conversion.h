@@ -2,7 +2,7 @@
 #ifndef CONVERSION_H
 #define CONVERSION_H
 
-#include "fault.h"
+#include "events.h"
 
 enum { LINE_BYTES = 65536 };
 
@@ -20,13 +20,6 @@ struct pyx_sink {
     bool (*piece)(void *context, const struct piece *piece); /* takes a piece; false: it wants no more */
     void (*note)(void *context, struct place place, const char *what); /* takes a note: what is left out of the document without harm to its form */
     void *context;
-};
-
-/* The source of the XML. `read` writes at most `size` bytes, and their number to `length`: 0 at the end. False: it failed, and the fault says why. */
-struct byte_source {
-    bool (*read)(void *context, char *bytes, size_t size, size_t *length, struct fault *fault);
-    void *context;
-    const char *beside; /* the path of the document, beside which its external DTD and entities are read; NULL: they are not */
 };
 
 /* Converts a document. If there is no fault, the sink has received all of it. */

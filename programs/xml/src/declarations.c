@@ -11,7 +11,7 @@
 
 enum {
     MOST_REFERRING = 500, /* entities that refer to others: libxml2 calls itself for an entity in an entity, and goes some 510 levels down */
-    MOST_DEFAULTS = 256,   /* declarations of namespaces by default */
+    MOST_DEFAULTS = 256,   /* declarations of namespaces by default, or of attributes with a default for one element */
     MOST_LOADED = 67108864, /* bytes of external entities */
     REFERENCE_COST = 256,  /* of a reference, in bytes */
     EMPTY_PLACES = 4096,   /* at which an empty entity is read in turn */
@@ -23,7 +23,7 @@ static const char *plain(const xmlChar *text) {
     return text == NULL ? "" : (const char *)text;
 }
 
-bool declarations_open(struct declarations *declarations, struct feed *feed, const struct pyx_sink *sink) {
+bool declarations_open(struct declarations *declarations, struct feed *feed, const struct event_sink *sink) {
     static xmlChar no_name[] = "";
     memset(declarations, 0, sizeof *declarations);
     declarations->feed = feed;
@@ -244,7 +244,7 @@ static void count_default(struct declarations *declarations, const xmlChar *elem
     uintptr_t count = (uintptr_t)xmlHashLookup(declarations->counts, element) + 1;
     if (xmlHashUpdateEntry(declarations->counts, element, (void *)count, NULL) != 0) {
         out_of_memory(declarations);
-    } else if (count > MOST_ATTRIBUTES) {
+    } else if (count > MOST_DEFAULTS) {
         refuse(declarations, "more than 256 declarations of attributes with defaults for one element: outside the profile");
     }
 }
@@ -265,14 +265,22 @@ void declarations_attribute(struct declarations *declarations, const xmlChar *el
     }
 }
 
+bool declarations_count(struct declarations *declarations, uint64_t bytes) {
+    uint64_t read = feed_offset(declarations->feed) + declarations->loaded;
+    declarations->expanded += bytes;
+    return declarations->expanded <= EXPANDED_BYTES || declarations->expanded / MOST_GROWTH <= read;
+}
+
 /* Counts what a reference gives. False: entities give too much. */
 static bool count_reference(struct declarations *declarations, const xmlEntity *entity) {
     /* libxml2 passes all open namespaces to the parser of the entity */
     uint64_t namespaces = (uint64_t)declarations->feed->parser->nsNr;
-    declarations->expanded += REFERENCE_COST + 8 * namespaces + (entity->length > 0 ? (uint64_t)entity->length : 0);
-    uint64_t read = feed_offset(declarations->feed) + declarations->loaded;
-    if (declarations->expanded > EXPANDED_BYTES && declarations->expanded / MOST_GROWTH > read) {
+    if (!declarations_count(declarations, REFERENCE_COST + 8 * namespaces + (entity->length > 0 ? (uint64_t)entity->length : 0))) {
         refuse(declarations, "entities of more than 100 times the document's length: outside the profile");
+        return false;
+    }
+    if (feed_is_over(declarations->feed)) {
+        feed_check_memory(declarations->feed, declarations_place(declarations));
         return false;
     }
     return true;

@@ -27,7 +27,7 @@ struct twin {
 
 struct declarations {
     struct feed *feed;
-    const struct pyx_sink *sink; /* gets notes */
+    const struct event_sink *sink; /* gets notes */
     uint64_t doctype;          /* the offset of the document type */
     bool has_dropped;          /* libxml2 has dropped a parameter entity, so that a later declaration of it would count */
     bool is_unread;            /* a parameter entity was not read: what is declared after it may not count */
@@ -46,7 +46,7 @@ struct declarations {
 };
 
 /* False: out of memory. */
-bool declarations_open(struct declarations *declarations, struct feed *feed, const struct pyx_sink *sink);
+bool declarations_open(struct declarations *declarations, struct feed *feed, const struct event_sink *sink);
 void declarations_free(struct declarations *declarations);
 
 /* Reads the external DTD, if that is wanted. */
@@ -63,6 +63,9 @@ void declarations_entity(struct declarations *declarations, bool is_parameter, c
 void declarations_declared(struct declarations *declarations, const xmlChar *name);
 void declarations_names(struct declarations *declarations, const xmlChar *element, const xmlElementContent *content);
 void declarations_attribute(struct declarations *declarations, const xmlChar *element, const xmlChar *name, const xmlChar *value);
+
+/* Counts bytes that the document gives without having them. False: they are too many. */
+bool declarations_count(struct declarations *declarations, uint64_t bytes);
 
 /* The entity to read for a reference; NULL: there is none, or it is not read, and then there is a fault. */
 xmlEntityPtr declarations_general(struct declarations *declarations, const xmlChar *name);

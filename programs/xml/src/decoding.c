@@ -2,7 +2,10 @@
 
 #include <string.h>
 
-enum { DECLARATION_BYTES = 65536 };
+enum {
+    DECLARATION_BYTES = 65536,
+    PLAIN_BYTES = 128 /* that are looked at together */
+};
 
 static void refuse(struct decoding *decoding, enum fault_kind kind, const char *what) {
     fault_set(&decoding->fault, kind, (struct place){0, 0}, "%s", what);
@@ -178,17 +181,32 @@ static bool is_plain(char byte) {
     return (unsigned char)byte < 0x80 && ((unsigned char)byte >= ' ' || byte == '\n' || byte == '\t');
 }
 
-/* Whether the next eight bytes are all from a space on and in ASCII. */
+/* Whether the next eight bytes are all in ASCII, and from a space on or line feeds. */
 static bool are_plain(const char *bytes) {
+    const uint64_t high = UINT64_C(0x8080808080808080);
     uint64_t word;
     memcpy(&word, bytes, sizeof word);
-    return ((word | (word - UINT64_C(0x2020202020202020))) & UINT64_C(0x8080808080808080)) == 0;
+    uint64_t printed = (word | high) - UINT64_C(0x2020202020202020);                                    /* the high bit is there from a space on */
+    uint64_t other = ((word ^ UINT64_C(0x0A0A0A0A0A0A0A0A)) | high) - UINT64_C(0x0101010101010101); /* and here but for a line feed */
+    return ((word | ~(printed | ~other)) & high) == 0;
+}
+
+/* Whether so many bytes are all plain. It looks at all of them in the same way, so compilers look at many together. */
+static bool are_all_plain(const char *bytes) {
+    unsigned char others = 0;
+    for (size_t at = 0; at < PLAIN_BYTES; at++) {
+        others = (unsigned char)(others | (((signed char)bytes[at] < ' ') & (bytes[at] != '\n') & (bytes[at] != '\t')));
+    }
+    return others == 0;
 }
 
 /* How many bytes from here on are characters of ASCII that need no care. */
 static size_t plain_length(const char *bytes, size_t length) {
     size_t at = 0;
-    size_t stop = 0;
+    while (length - at >= PLAIN_BYTES && are_all_plain(bytes + at)) {
+        at += PLAIN_BYTES;
+    }
+    size_t stop = at;
     while (at == stop && at < length) {
         while (length - at >= 8 && are_plain(bytes + at)) {
             at += 8;

@@ -24,6 +24,13 @@ void fault_set(struct fault *fault, enum fault_kind kind, struct place place, co
     fault->what.length = (size_t)length;
 }
 
+void fault_set_clause(struct fault *fault, int clause, struct place place, const char *what) {
+    if (fault->kind == FAULT_NONE) {
+        fault_set(fault, FAULT_MALFORMED, place, "%s", what);
+        fault->clause = fault->kind == FAULT_MALFORMED ? clause : 0;
+    }
+}
+
 void fault_free(struct fault *fault) {
     bytes_free(&fault->what);
     *fault = (struct fault)NO_FAULT;

@@ -6,13 +6,15 @@
 
 enum {
     PIECE_BYTES = 65536,    /* of the document, read at once */
-    TOKEN_BYTES = 16777216, /* the longest markup */
+    TOKEN_BYTES = 1000000000, /* the longest markup: libxml2 takes no more */
+    LONG_BYTES = 1048576,     /* the beginning of longer markup is not kept */
     MOST_CHOICES = 10000,   /* of a declaration: libxml2 compares them in pairs */
+    COUNTED_BYTES = 128,    /* whose line feeds are counted together: fewer than 256 */
     FORGOTTEN_BYTES = 65536 /* the text that was read is forgotten in pieces of this length */
 };
 
 const char too_many_choices[] = "over a limit of this program: a declaration has more than 10,000 choices";
-const char too_many_attributes[] = "over a limit of this program: a tag has more than 256 attributes and declarations";
+const char too_many_attributes[] = "over a limit of this program: a tag has more than 10,000 attributes and declarations";
 
 void feed_open(struct feed *feed, const struct byte_source *source, struct fault *fault) {
     static const struct decoding new_decoding = NO_DECODING;
@@ -21,6 +23,7 @@ void feed_open(struct feed *feed, const struct byte_source *source, struct fault
     feed->fault = fault;
     feed->decoding = new_decoding;
     feed->place = (struct place){1, 1};
+    feed->long_at = UINT64_MAX;
 }
 
 void feed_close(struct feed *feed) {
@@ -37,35 +40,20 @@ static uint64_t end_of(const struct feed *feed) {
     return feed->begin + feed->text.length;
 }
 
-uint64_t feed_offset(const struct feed *feed) {
-    if (feed->is_away) {
-        return feed->away_at;
-    }
-    if (feed->parser->inputNr < 1) {
-        return feed->begin + feed->given;
-    }
-    const xmlParserInput *input = feed->parser->inputTab[0];
-    return (uint64_t)input->consumed + (uint64_t)(input->cur - input->base);
+/* Whether the offset is in the beginning of markup that is not kept. */
+static bool is_in_mark(const struct feed *feed, uint64_t offset) {
+    return offset < feed->begin && offset >= feed->long_at && offset - feed->long_at < MARK_BYTES;
 }
 
-bool feed_offset_of(const struct feed *feed, const xmlChar *pointer, uint64_t *offset) {
-    if (feed->parser->inputNr < 1 || feed->is_away) {
-        return false;
-    }
-    const xmlParserInput *input = feed->parser->inputTab[0];
-    if (pointer < input->base || pointer >= input->end) {
-        return false;
-    }
-    *offset = (uint64_t)input->consumed + (uint64_t)(pointer - input->base);
-    return true;
-}
-
-char feed_byte(const struct feed *feed, uint64_t offset) {
-    return offset < feed->begin || offset >= end_of(feed) ? '\0' : feed->text.data[offset - feed->begin];
+char feed_kept_byte(const struct feed *feed, uint64_t offset) {
+    return is_in_mark(feed, offset) ? feed->long_mark[offset - feed->long_at] : '\0';
 }
 
 static bool is_at(const struct feed *feed, uint64_t offset, const char *text) {
     size_t length = strlen(text);
+    if (is_in_mark(feed, offset)) {
+        return offset == feed->long_at && length <= MARK_BYTES && memcmp(feed->long_mark, text, length) == 0;
+    }
     return offset >= feed->begin && offset + length <= end_of(feed) && memcmp(feed->text.data + (offset - feed->begin), text, length) == 0;
 }
 
@@ -78,32 +66,102 @@ uint64_t feed_last(const struct feed *feed, uint64_t end, const char *text) {
             return feed->begin + (uint64_t)(at - feed->text.data);
         }
     }
-    return end;
+    bool is_long = is_in_mark(feed, feed->long_at) && feed->long_at < end && is_at(feed, feed->long_at, text);
+    return is_long ? feed->long_at : end;
+}
+
+/* How many of eight bytes begin a character. */
+static unsigned beginnings_of(uint64_t word) {
+    uint64_t continued = word >> 7 & ~(word >> 6) & UINT64_C(0x0101010101010101);
+    return 8 - (unsigned)((continued * UINT64_C(0x0101010101010101)) >> 56);
+}
+
+/* How many of so many bytes are line feeds. It looks at all of them in the same way, so compilers look at many together. */
+static unsigned line_feeds_of(const char *bytes) {
+    unsigned char count = 0;
+    for (size_t at = 0; at < COUNTED_BYTES; at++) {
+        count = (unsigned char)(count + (bytes[at] == '\n'));
+    }
+    return count;
+}
+
+static size_t line_feeds(const char *at, const char *end) {
+    size_t count = 0;
+    for (; end - at >= COUNTED_BYTES; at += COUNTED_BYTES) {
+        count += line_feeds_of(at);
+    }
+    for (; at < end; at++) {
+        count += *at == '\n';
+    }
+    return count;
+}
+
+/* How many characters begin in a part of the text. */
+static size_t characters(const char *at, const char *end) {
+    size_t count = 0;
+    for (; end - at >= 8; at += 8) {
+        uint64_t word;
+        memcpy(&word, at, sizeof word);
+        count += beginnings_of(word);
+    }
+    for (; at < end; at++) {
+        count += ((unsigned char)*at & 0xC0) != 0x80;
+    }
+    return count;
+}
+
+/* Counts the lines and columns of a part of the text. */
+static struct place counted(struct place place, const char *at, const char *end) {
+    const char *line = end; /* where the last line begins */
+    while (line - at >= COUNTED_BYTES && line_feeds_of(line - COUNTED_BYTES) == 0) {
+        line -= COUNTED_BYTES;
+    }
+    while (line > at && line[-1] != '\n') {
+        line--;
+    }
+    if (line > at) {
+        place = (struct place){place.line + line_feeds(at, line), 1};
+    }
+    place.column += characters(line, end);
+    return place;
 }
 
 struct place feed_place(struct feed *feed, uint64_t offset) {
     uint64_t end = offset < end_of(feed) ? offset : end_of(feed);
-    if (end <= feed->place_at) {
-        return feed->place;
+    if (is_in_mark(feed, offset)) {
+        return (struct place){feed->long_place.line, feed->long_place.column + (offset - feed->long_at)};
     }
-    const char *last = feed->text.data + (end - feed->begin);
-    uint64_t line = feed->place.line;
-    uint64_t column = feed->place.column;
-    for (const char *at = feed->text.data + (feed->place_at - feed->begin); at < last; at++) {
-        if (*at == '\n') {
-            line++;
-            column = 1;
-        } else if (((unsigned char)*at & 0xC0) != 0x80) {
-            column++;
-        }
+    if (end > feed->place_at) {
+        feed->place = counted(feed->place, feed->text.data + (feed->place_at - feed->begin), feed->text.data + (end - feed->begin));
+        feed->place_at = end;
     }
-    feed->place_at = end;
-    feed->place = (struct place){line, column};
     return feed->place;
 }
 
-void feed_move(struct feed *feed, uint64_t next) {
-    feed->next = next > feed->next ? next : feed->next;
+struct place place_of(const struct position *position) {
+    struct feed *feed = position->feed;
+    if (position->mark != NULL) {
+        return feed_place(feed, feed_last(feed, position->at, position->mark));
+    }
+    size_t blanks = 0;
+    while (blanks < position->blanks && is_blank(feed_byte(feed, position->at + blanks))) {
+        blanks++;
+    }
+    return feed_place(feed, blanks < position->blanks ? position->at + blanks : position->at);
+}
+
+void keep_position(const struct position *position) {
+    position->feed->kept_position = *position;
+    position->feed->is_kept_known = false;
+}
+
+struct place kept_place(const struct position *position) {
+    struct feed *feed = position->feed;
+    if (!feed->is_kept_known && feed->kept_position.feed != NULL) {
+        feed->kept_place = place_of(&feed->kept_position);
+        feed->is_kept_known = true;
+    }
+    return feed->kept_place;
 }
 
 uint64_t feed_settle(struct feed *feed, uint64_t end) {
@@ -124,18 +182,53 @@ uint64_t feed_settle(struct feed *feed, uint64_t end) {
     return feed->next;
 }
 
-/* Forgets the text that was read. What may be asked for again is kept. */
-static void forget(struct feed *feed) {
-    feed_place(feed, feed->next < feed->begin + feed->given ? feed->next : feed->begin + feed->given);
-    uint64_t read = feed->place_at < feed->next ? feed->place_at : feed->next;
-    size_t length = read > feed->begin ? (size_t)(read - feed->begin) : 0;
-    if (length > feed->given) {
-        length = feed->given;
-    }
+/* Forgets the first bytes of the text, if they are enough. */
+static void cut(struct feed *feed, uint64_t end) {
+    size_t length = end > feed->begin ? (size_t)(end - feed->begin) : 0;
+    length = length > feed->given ? feed->given : length;
     if (length >= FORGOTTEN_BYTES) {
         bytes_cut_front(&feed->text, length);
         feed->begin += length;
         feed->given -= length;
+    }
+}
+
+/* Forgets long markup that is being read, but its beginning and its last bytes. */
+static void forget_long(struct feed *feed) {
+    uint64_t given = feed->begin + feed->given;
+    uint64_t markup = feed_markup(feed);
+    if (given < markup + LONG_BYTES || feed_byte(feed, markup) != '<') {
+        return;
+    }
+    if (feed->long_at != markup) {
+        feed->long_place = feed_place(feed, markup);
+        feed->long_at = markup;
+        memcpy(feed->long_mark, feed->text.data + (markup - feed->begin), MARK_BYTES);
+    }
+    if (given - feed->begin >= LONG_BYTES) {
+        feed_place(feed, given - FORGOTTEN_BYTES);
+        cut(feed, given - FORGOTTEN_BYTES);
+    }
+}
+
+/* Forgets the text that was read. What may be asked for again is kept. */
+static void forget(struct feed *feed) {
+    kept_place(&(struct position){feed, 0, NULL, 0});
+    feed_place(feed, feed->next < feed->begin + feed->given ? feed->next : feed->begin + feed->given);
+    cut(feed, feed->place_at < feed->next ? feed->place_at : feed->next);
+    forget_long(feed);
+}
+
+bool feed_is_over(const struct feed *feed) {
+    return parser_memory_held() + feed->text.capacity + feed->room.capacity + feed->unfinished + feed->kept > feed->most;
+}
+
+void feed_check_memory(struct feed *feed, struct place place) {
+    if (feed_is_over(feed)) {
+        struct bytes most = NO_BYTES;
+        bytes_add_count(&most, feed->most);
+        fault_set(feed->fault, FAULT_OUTSIDE, place, "over a limit of this program: more than %s bytes are held of the document (--max-memory)", bytes_text(&most));
+        bytes_free(&most);
     }
 }
 
@@ -239,7 +332,7 @@ static void check_tag(struct feed *feed, uint64_t markup) {
     uint64_t given = feed->begin + feed->given;
     char after = feed_byte(feed, markup + 1);
     bool is_tag = feed_byte(feed, markup) == '<' && after != '\0' && strchr("!?/", after) == NULL;
-    if (feed->parser->instate == XML_PARSER_DTD || !is_tag || markup >= given) {
+    if (feed->parser->instate == XML_PARSER_DTD || !is_tag || markup >= given || (feed->scan.tag != markup && markup < feed->begin)) {
         return;
     }
     if (feed->scan.tag != markup || feed->scan.next == 0) {
@@ -271,12 +364,12 @@ static void check_choices(struct feed *feed, uint64_t markup) {
     }
 }
 
-/* Refuses markup that is too long. Comments, instructions and CDATA have no limit. */
+/* Refuses markup that is too long, and a document of which too much is held. */
 static void check_length(struct feed *feed, uint64_t markup) {
-    if (feed->begin + feed->given > markup + TOKEN_BYTES && !is_at(feed, markup, "<!--") && !is_at(feed, markup, "<![CDATA[") &&
-        (!is_at(feed, markup, "<?") || is_at(feed, markup, "<?xml "))) {
-        fault_set(feed->fault, FAULT_OUTSIDE, feed_place(feed, markup), "markup of more than 16,777,216 bytes: outside the profile");
+    if (feed->begin + feed->given > markup + TOKEN_BYTES) {
+        fault_set(feed->fault, FAULT_OUTSIDE, feed_place(feed, markup), "over a limit of this program: markup of more than 1,000,000,000 bytes");
     }
+    feed_check_memory(feed, feed->place);
 }
 
 /* libxml2 looks ahead in what it gets at once, so it gets all that it asks for unless the document ends. */

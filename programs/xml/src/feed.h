@@ -4,12 +4,15 @@
 #ifndef FEED_H
 #define FEED_H
 
-#include "conversion.h"
 #include "decoding.h"
+#include "events.h"
 
 #include <libxml/parser.h>
 
-enum { MOST_ATTRIBUTES = 256 }; /* with declarations of namespaces: PYX has no more in a tag */
+enum {
+    MOST_ATTRIBUTES = 10000, /* of a tag, with declarations of namespaces: libxml2 compares them in pairs */
+    MARK_BYTES = 9           /* the longest beginning that tells markup: `<![CDATA[` */
+};
 
 /* The start tag that is being read: how many attributes it has. It is scanned while its text comes, before libxml2 compares them in pairs. */
 struct tag_scan {
@@ -41,6 +44,15 @@ struct feed {
     uint64_t next;      /* the offset of the markup or the text that is being read */
     struct tag_scan scan;
     struct bytes room;  /* where the document's bytes are read */
+    uint64_t long_at;   /* the offset of markup that is so long that its beginning is not kept, .. */
+    struct place long_place;
+    char long_mark[MARK_BYTES]; /* .. but its place and its first bytes */
+    struct position kept_position; /* of an event whose place may be asked for later; without a feed: of none */
+    bool is_kept_known;
+    struct place kept_place;
+    size_t most;        /* the bytes that may be held of the document */
+    size_t unfinished;  /* the bytes of the text that the receiver has not seen the end of */
+    size_t kept;        /* the bytes that the receiver keeps otherwise */
     void (*before_read)(void *context); /* is called before more of the document is read, which may take long */
     void *context;
 };
@@ -52,13 +64,38 @@ void feed_close(struct feed *feed);
 int feed_read(void *feed, char *bytes, int length);
 
 /* The offset at which libxml2 is in the document. */
-uint64_t feed_offset(const struct feed *feed);
+static inline uint64_t feed_offset(const struct feed *feed) {
+    if (feed->is_away) {
+        return feed->away_at;
+    }
+    if (feed->parser->inputNr < 1) {
+        return feed->begin + feed->given;
+    }
+    const xmlParserInput *input = feed->parser->inputTab[0];
+    return (uint64_t)input->consumed + (uint64_t)(input->cur - input->base);
+}
 
 /* Whether the pointer is into the text of the document as libxml2 has it. Then sets its offset. */
-bool feed_offset_of(const struct feed *feed, const xmlChar *pointer, uint64_t *offset);
+static inline bool feed_offset_of(const struct feed *feed, const xmlChar *pointer, uint64_t *offset) {
+    if (feed->parser->inputNr < 1 || feed->is_away) {
+        return false;
+    }
+    const xmlParserInput *input = feed->parser->inputTab[0];
+    if (pointer < input->base || pointer >= input->end) {
+        return false;
+    }
+    *offset = (uint64_t)input->consumed + (uint64_t)(pointer - input->base);
+    return true;
+}
+
+/* The byte at the offset, which may be in the beginning of markup that is not kept; 0: it is not kept. */
+char feed_kept_byte(const struct feed *feed, uint64_t offset);
 
 /* The byte at the offset; 0: it is not kept. */
-char feed_byte(const struct feed *feed, uint64_t offset);
+static inline char feed_byte(const struct feed *feed, uint64_t offset) {
+    bool is_there = offset >= feed->begin && offset - feed->begin < feed->text.length;
+    return is_there ? feed->text.data[offset - feed->begin] : feed_kept_byte(feed, offset);
+}
 
 /* The last offset before `end`, and not before what is kept, at which the text is; `end` if there is none. */
 uint64_t feed_last(const struct feed *feed, uint64_t end, const char *text);
@@ -67,7 +104,9 @@ uint64_t feed_last(const struct feed *feed, uint64_t end, const char *text);
 struct place feed_place(struct feed *feed, uint64_t offset);
 
 /* Moves on: what is before the offset was read. */
-void feed_move(struct feed *feed, uint64_t next);
+static inline void feed_move(struct feed *feed, uint64_t next) {
+    feed->next = next > feed->next ? next : feed->next;
+}
 
 /* The offset of the markup that is being read, after blanks. */
 uint64_t feed_markup(struct feed *feed);
@@ -75,7 +114,11 @@ uint64_t feed_markup(struct feed *feed);
 /* Moves on to the text or markup that ends at or before `end`, over references that gave nothing. Returns its offset. */
 uint64_t feed_settle(struct feed *feed, uint64_t end);
 
-/* Whether a tag in the text has more attributes than PYX has. */
+/* Whether more is held of the document than is allowed. Then the other one refuses it, and tells the place. */
+bool feed_is_over(const struct feed *feed);
+void feed_check_memory(struct feed *feed, struct place place);
+
+/* Whether a tag in the text has more attributes than are read. */
 bool has_too_many_attributes(struct span text);
 
 /* Whether a declaration in the text has more choices than are read. */

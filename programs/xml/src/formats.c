@@ -16,6 +16,7 @@ void add_text(struct bytes *line, const struct result *result, bool has_color) {
     bytes_add_text(line, !has_color ? "" : is_good ? "\033[32m" : "\033[31m");
     bytes_add_text(line, is_good ? result->verdict : result->message);
     bytes_add_text(line, has_color ? "\033[0m\n" : "\n");
+    bytes_add_text(line, result->source == NULL ? "" : result->source);
 }
 
 /* The length of the character that begins here; 0 if none does. */
@@ -84,6 +85,39 @@ static void add_notes(struct bytes *line, const struct result *result) {
     bytes_add_text(line, result->note_count > 0 || result->schema_note[0] != '\0' ? "]" : "");
 }
 
+/* Adds what was expected, as an array. */
+static void add_expected(struct bytes *line, const struct answer *answer) {
+    const char *at = answer->expected.data;
+    if (answer->expected_count > 0) {
+        bytes_add_text(line, ", \"expected\": [");
+    }
+    for (size_t index = 0; index < answer->expected_count; index++) {
+        bytes_add_text(line, index == 0 ? "" : ", ");
+        add_string(line, at, strlen(at), false);
+        at += strlen(at) + 1;
+    }
+    bytes_add_text(line, answer->expected_count > 0 ? "]" : "");
+}
+
+static void add_bytes_member(struct bytes *line, const char *name, const struct bytes *text) {
+    if (text->length > 0) {
+        bytes_format(line, ", \"%s\": ", name);
+        add_string(line, text->data, text->length, false);
+    }
+}
+
+/* Adds what is wrong, as members. The first one has `before` before it. */
+static void add_reason(struct bytes *line, const struct answer *answer, const char *before) {
+    static const char *const reasons[] = {"",           "element-not-allowed", "attribute-not-allowed", "attribute-value", "attributes-missing",
+                                          "attributes", "text-not-allowed",    "text-value",            "incomplete"};
+    if (answer != NULL && answer->reason != REASON_NOT_KNOWN) {
+        bytes_format(line, "%s\"reason\": \"%s\"", before, reasons[answer->reason]);
+        add_expected(line, answer);
+        add_bytes_member(line, "attribute", &answer->attribute);
+        add_bytes_member(line, "datatype", &answer->datatype);
+    }
+}
+
 void add_json(struct bytes *line, const struct result *result) {
     static const char *const stands[] = {"unknown", "element", "attribute", "text", "end"};
     bytes_add_text(line, "{\"file\": ");
@@ -103,6 +137,7 @@ void add_json(struct bytes *line, const struct result *result) {
     if (result->message[0] != '\0') {
         add_member(line, "message", result->message);
     }
+    add_reason(line, result->answer, ", ");
     add_notes(line, result);
     bytes_add_text(line, "}\n");
 }
@@ -171,7 +206,12 @@ void add_sarif(struct bytes *line, const struct result *result, bool is_first) {
     if (result->place.line > 0) {
         bytes_format(line, ", \"region\": {\"startLine\": %" PRIu64 ", \"startColumn\": %" PRIu64 "}", result->place.line, result->place.column);
     }
-    bytes_add_text(line, "}}]}");
+    bytes_add_text(line, "}}]");
+    if (result->answer != NULL && result->answer->reason != REASON_NOT_KNOWN) {
+        add_reason(line, result->answer, ", \"properties\": {");
+        bytes_add_byte(line, '}');
+    }
+    bytes_add_byte(line, '}');
 }
 
 void add_sarif_tail(struct bytes *line, bool is_successful) {

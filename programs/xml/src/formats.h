@@ -18,6 +18,8 @@ struct result {
     struct note *notes;
     size_t note_count;
     const char *schema_note; /* what the schema's file says about the schema; empty if that is nothing */
+    const struct answer *answer; /* with what was expected; NULL: nothing was */
+    const char *source;       /* the line of the document with a mark below; empty: it is not shown */
 };
 
 /* `FILE:LINE:COLUMN: MESSAGE`, with the line feed. */

@@ -223,14 +223,16 @@ static uint32_t read_class(struct form *form, int depth) {
 /* What is in braces. */
 static struct part read_braced(struct form *form) {
     wants(form, '{');
+    form->from = form->token.at;
     struct part part = read_part(form);
+    form->to = form->token.at;
     wants(form, '}');
     return part;
 }
 
 /* What is after `=` in the line of a pattern or an element. */
 static struct form_line read_line(struct form *form) {
-    struct form_line line = {{0, PART_PLAIN, ID_NONE, false}, {0, PART_PLAIN, ID_NONE, false}, NO_CLASS, 0, LINE_JOINED};
+    struct form_line line = {{0, PART_PLAIN, ID_NONE, false}, {0, PART_PLAIN, ID_NONE, false}, NO_CLASS, 0, LINE_JOINED, '\0', form->token.at, 0};
     bool is_element = is_word(&form->token, "element");
     if (is_element || is_word(&form->token, "attribute")) {
         line.kind = is_element ? LINE_ELEMENT : LINE_ATTRIBUTE;
@@ -248,12 +250,17 @@ static struct form_line read_line(struct form *form) {
         } else if (takes(form, '-')) {
             line.kind = LINE_EXCEPT;
             line.other = read_part(form);
-        } else if (takes(form, '|') || takes(form, ',') || takes(form, '&')) {
+        } else if (is_sign(&form->token, '|') || is_sign(&form->token, ',') || is_sign(&form->token, '&')) {
+            line.sign = form->token.text.data[0];
+            advance(form);
             line.other = read_part(form);
         } else {
             is_strange(form);
         }
     }
+    bool is_braced = line.kind == LINE_ELEMENT || line.kind == LINE_ATTRIBUTE;
+    line.from = is_braced ? form->from : line.from;
+    line.to = is_braced ? form->to : form->token.kind == TOKEN_NONE ? form->length : form->token.at;
     return line;
 }
 

@@ -31,6 +31,9 @@ struct form_line {
     uint32_t class; /* of an element or an attribute */
     uint32_t seen;  /* when it was looked at last */
     uint8_t kind;
+    char sign;      /* of a joined one */
+    size_t from;    /* in the text: what is in the braces of an element or an attribute, and else what is after `=` */
+    size_t to;
 };
 
 enum class_kind { CLASS_ONE_NAME, CLASS_NAMESPACE, CLASS_ALL, CLASS_ONE_OF };
@@ -48,6 +51,7 @@ struct form {
     struct tokens tokens;
     struct token token;   /* the next one */
     size_t length;        /* of the text */
+    size_t from, to;      /* what was in braces last */
     struct bytes uris;    /* it never moves */
     struct span *prefixes; /* n0, n1, .. */
     struct form_line *elements;

@@ -173,7 +173,6 @@ static void close_locks(struct jobs *jobs) {
 bool jobs_run(struct documents *documents, struct shared *shared, struct report *report, unsigned threads) {
     struct jobs jobs;
     if (threads <= 1 || documents->known == 1) {
-        shared->is_by_two = threads > 1;
         return run_alone(documents, shared, report);
     }
     memset(&jobs, 0, sizeof jobs);

@@ -1,16 +1,14 @@
 #include "judging.h"
 
 #include "probes.h"
-#include "two_threads.h"
 
 #include <inttypes.h>
 #include <stdlib.h>
 #include <string.h>
 
 enum {
-    PREFIX_BYTES = 1048576, /* of the PYX, kept to try changes */
     MOST_NOTES = 100,
-    SHOWN_CHARACTERS = 40 /* of a text */
+    TEXT_BYTES = 512 /* kept of a text: enough for what is shown of it */
 };
 
 /* A document that is being judged. */
@@ -19,11 +17,14 @@ struct judging {
     struct source source;
     struct answer *answer;
     struct fault *fault;
-    uint64_t invalid_line; /* 0: not known */
-    struct line_report reported;
-    struct line_report broken; /* the line with which the document breaks a clause */
+    struct finding found; /* where the document is invalid, if that is known */
     rncv_verdict verdict;
-    bool is_broken;
+    uint64_t number; /* of the starts and ends that were passed: it is the place of the last one for the library */
+    bool has_tag;    /* nothing came behind the start tag whose position is kept */
+    bool has_text;   /* a text is directly before what comes next, whose position is kept */
+    bool is_cut;     /* no more of it is kept */
+    bool is_begun;   /* what is kept of it begins with a character that is no blank */
+    size_t text_at;          /* where it begins in the log */
     bool has_begun; /* a byte of the document was read, and this is the first one */
     char first;
 };
@@ -37,15 +38,19 @@ bool judge_open(struct judge *judge, struct shared *shared) {
 
 void judge_close(struct judge *judge) {
     rncv_schema_free(&judge->schema);
-    rncv_schema_free(&judge->marked);
-    bytes_free(&judge->prefix);
-    line_places_free(&judge->line_places);
+    declared_close(&judge->declared);
+    event_log_free(&judge->log);
+    call_room_free(&judge->room);
+    bytes_free(&judge->text);
     id_check_close(&judge->ids);
 }
 
 void answer_free(struct answer *answer) {
     bytes_free(&answer->name);
     bytes_free(&answer->message);
+    bytes_free(&answer->expected);
+    bytes_free(&answer->attribute);
+    bytes_free(&answer->datatype);
     for (size_t at = 0; at < answer->note_count; at++) {
         bytes_free(&answer->notes[at].what);
     }
@@ -70,86 +75,198 @@ int status_of(enum verdict verdict) {
     }
 }
 
-/* The length in UTF-8 of the character that begins here; 1 if none does. */
-static size_t character_length(const char *text, size_t left) {
-    unsigned char byte = (unsigned char)text[0];
-    size_t length = byte < 0xC2 ? 1 : byte < 0xE0 ? 2 : byte < 0xF0 ? 3 : byte < 0xF5 ? 4 : 1;
-    for (size_t at = 1; at < length; at++) {
-        if (at >= left || ((unsigned char)text[at] & 0xC0) != 0x80) {
-            return 1;
-        }
-    }
-    return length;
+static bool out_of_memory(struct judging *judging) {
+    fault_set(judging->fault, FAULT_MEMORY, (struct place){0, 0}, "out of memory");
+    return false;
 }
 
-void add_shown(struct bytes *line, const char *text, size_t length, size_t limit) {
-    size_t count = 0;
-    for (size_t at = 0; at < length; count++) {
-        size_t size = character_length(text + at, length - at);
-        unsigned char byte = (unsigned char)text[at];
-        if (count == limit) {
-            bytes_add_text(line, "..");
-            return;
-        }
-        bool is_separator = size == 3 && memcmp(text + at, "\xE2\x80", 2) == 0 && ((unsigned char)text[at + 2] & 0xFE) == 0xA8;
-        if (is_separator) {
-            bytes_add_text(line, (unsigned char)text[at + 2] == 0xA8 ? "\\u2028" : "\\u2029");
-        } else if (byte == '\n' || byte == '\t' || byte == '\r') {
-            bytes_add_text(line, byte == '\n' ? "\\n" : byte == '\t' ? "\\t" : "\\r");
-        } else if (byte < ' ' || byte == 0x7F) {
-            bytes_format(line, "\\x%02x", byte);
-        } else if (size == 2 && byte == 0xC2 && (unsigned char)text[at + 1] < 0xA0) {
-            bytes_format(line, "\\x%02x", (unsigned char)text[at + 1]);
-        } else {
-            bytes_add(line, text + at, size);
-        }
-        at += size;
+/* Whether the library has taken an event. What comes from a parser breaks no clause, if its names do not, and these were checked. */
+static bool is_taken(struct judging *judging, int32_t status) {
+    if (status == RNCV_DONE) {
+        return true;
     }
-}
-
-/* Keeps the first lines of the document. */
-static void keep(struct judge *judge, const struct piece *piece) {
-    judge->prefix_is_full |= judge->prefix.failed || judge->prefix.length + piece->length > PREFIX_BYTES;
-    if (!judge->prefix_is_full) {
-        bytes_add(&judge->prefix, piece->bytes, piece->length);
-    }
-}
-
-/* The document breaks a clause. Notes at which line. */
-static void break_off(struct judging *judging, const struct piece *piece) {
-    if (rncv_document_end(&judging->judge->schema, &judging->verdict) != RNCV_DONE) {
-        fault_set(judging->fault, FAULT_MEMORY, (struct place){0, 0}, "out of memory");
-        return;
-    }
-    judging->is_broken = true;
-    line_places_find(&judging->judge->line_places, piece, judging->verdict.line, &judging->broken);
-}
-
-/* Passes the lines to the library. False: no more are wanted. */
-static bool take_piece(void *context, const struct piece *piece) {
-    struct judging *judging = context;
-    struct judge *judge = judging->judge;
-    keep(judge, piece);
-    int32_t status = rncv_document_feed(&judge->schema, (const uint8_t *)piece->bytes, piece->length);
     if (status == RNCV_MALFORMED) {
-        break_off(judging, piece);
-        return false;
+        fault_set(judging->fault, FAULT_DEVICE, (struct place){0, 0}, "the library refuses what libxml2 has read");
     }
+    return out_of_memory(judging);
+}
+
+static void add_written(struct bytes *written, const struct event_name *name) {
+    bytes_add(written, name->prefix.data, name->prefix.length);
+    bytes_add_text(written, name->prefix.length > 0 ? ":" : "");
+    bytes_add(written, name->local.data, name->local.length);
+}
+
+static size_t blanks_of(struct span text) {
+    size_t at = 0;
+    while (at < text.length && (text.data[at] == ' ' || text.data[at] == '\t' || text.data[at] == '\n' || text.data[at] == '\r')) {
+        at++;
+    }
+    return at;
+}
+
+/* Drops the blanks before what is kept of the text. */
+static void drop_blanks(struct judging *judging) {
+    struct bytes *kept = &judging->judge->text;
+    if (!judging->is_begun) {
+        bytes_cut_front(kept, blanks_of((struct span){kept->data, kept->length}));
+        judging->is_begun = kept->length > 0;
+    }
+}
+
+/* A start or an end that was passed to the library. */
+struct passed {
+    const struct position *position;
+    const struct event_name *name;
+    size_t at; /* where it begins in the log */
+    bool is_end;
+};
+
+/* Notes what is at the start or end after which nothing valid can follow. A fault of an element without content is reported where its tag begins. */
+static bool note_finding(struct judging *judging, const struct passed *passed) {
+    const struct judge *judge = judging->judge;
+    struct finding *found = &judging->found;
+    drop_blanks(judging);
+    found->is_there = true;
+    found->is_end = passed->is_end;
+    found->has_text = judging->has_text && judge->text.length > 0;
+    found->text_place = kept_place(passed->position);
+    found->place = passed->is_end && judging->has_tag ? found->text_place : place_of(passed->position);
+    found->is_kept = !judge->log.is_full && !judge->log.bytes.failed;
+    found->at = passed->at;
+    found->text_at = judging->has_text ? judging->text_at : passed->at;
+    bytes_add(&found->text, judge->text.data, judging->has_text ? judge->text.length : 0);
+    add_written(&found->name, passed->name);
+    found->is_cut = judging->is_cut;
+    found->uri_length = passed->name->uri.length;
+    bytes_add(&found->expanded, passed->name->uri.data, passed->name->uri.length);
+    bytes_add(&found->expanded, passed->name->local.data, passed->name->local.length);
+    bool is_told = expected_get(&judging->judge->schema, &found->expected);
+    return is_told && !found->name.failed && !found->expanded.failed && !found->text.failed && !judge->text.failed;
+}
+
+/* Looks whether nothing valid can follow the start or end that was passed last. */
+static bool look(struct judging *judging, const struct passed *passed) {
     uint64_t since = 0;
-    if (status != RNCV_DONE || rncv_document_invalid_since(&judge->schema, &since) != RNCV_DONE) {
-        fault_set(judging->fault, FAULT_MEMORY, (struct place){0, 0}, "out of memory");
-        return false;
+    if (judging->found.is_there) {
+        return true;
     }
-    if (since != 0 && judging->invalid_line == 0) {
-        judging->invalid_line = since;
-        line_places_find(&judge->line_places, piece, since, &judging->reported);
+    if (rncv_events_invalid_since(&judging->judge->schema, &since) != RNCV_DONE) {
+        return out_of_memory(judging);
     }
-    bool has_ids = judge->shared->ids != NULL && judging->invalid_line == 0;
-    if ((has_ids && !id_check_take(&judge->ids, piece)) || !line_places_advance(&judge->line_places, piece)) {
-        fault_set(judging->fault, FAULT_MEMORY, (struct place){0, 0}, "out of memory");
-        return false;
+    if (since == judging->number) {
+        return note_finding(judging, passed) || out_of_memory(judging);
+    }
+    if (since != 0) { /* one that came before, whose place is no longer known */
+        judging->found.is_there = true;
+        judging->found.is_lost = true;
     }
     return true;
+}
+
+static bool take_start(void *context, const struct start_event *start) {
+    struct judging *judging = context;
+    struct judge *judge = judging->judge;
+    if (!judging->found.is_there) {
+        event_log_declarations(&judge->log, start);
+    }
+    struct passed passed = {&start->position, &start->name, judge->log.bytes.length, false};
+    int32_t status = library_start(&judge->schema, &judge->room, ++judging->number, &start->name, start->attributes, start->attribute_count);
+    if (!judging->found.is_there) {
+        event_log_start(&judge->log, start);
+    }
+    if (!is_taken(judging, status) || !look(judging, &passed)) {
+        return false;
+    }
+    judging->has_tag = true;
+    keep_position(&start->position);
+    judging->has_text = false;
+    bool has_ids = judge->shared->ids != NULL && !judging->found.is_there;
+    return !has_ids || id_check_take(&judge->ids, start) || out_of_memory(judging);
+}
+
+/* Keeps what there is room for of a text that is too long to be kept. It begins with a character that is no blank. No character is cut. */
+static void keep_beginning(struct judging *judging, struct span text) {
+    struct bytes *kept = &judging->judge->text;
+    drop_blanks(judging);
+    size_t begin = judging->is_begun ? 0 : blanks_of(text);
+    size_t length = text.length - begin;
+    judging->is_begun |= length > 0;
+    if (length > TEXT_BYTES - kept->length) {
+        judging->is_cut = true;
+        length = TEXT_BYTES - kept->length;
+        while (length > 0 && ((unsigned char)text.data[begin + length] & 0xC0) == 0x80) {
+            length--;
+        }
+    }
+    bytes_add(kept, text.data + begin, length);
+}
+
+/* Keeps the beginning of a text. Most are short, and no character of theirs is looked at. */
+static void keep_text(struct judging *judging, struct span text) {
+    struct bytes *kept = &judging->judge->text;
+    if (judging->is_cut) {
+        return;
+    }
+    if (text.length <= TEXT_BYTES - kept->length) {
+        bytes_add(kept, text.data, text.length);
+    } else {
+        keep_beginning(judging, text);
+    }
+}
+
+static bool take_text(void *context, const struct text_event *event) {
+    struct judging *judging = context;
+    struct judge *judge = judging->judge;
+    if (!judging->has_text) {
+        judge->text.length = 0;
+        judging->is_cut = false;
+        judging->is_begun = false;
+        judging->text_at = judge->log.bytes.length;
+    } else {
+        drop_blanks(judging);
+    }
+    if (!judging->is_begun) {
+        keep_position(&event->position);
+    }
+    judging->has_text = true;
+    judging->has_tag = false;
+    if (!judging->found.is_there) {
+        keep_text(judging, event->text);
+        event_log_text(&judge->log, event->text);
+    }
+    return is_taken(judging, library_text(&judge->schema, event->text));
+}
+
+static bool take_end(void *context, const struct position *position, const struct event_name *name) {
+    struct judging *judging = context;
+    struct judge *judge = judging->judge;
+    struct passed passed = {position, name, judge->log.bytes.length, true};
+    int32_t status = rncv_events_end(&judge->schema, ++judging->number);
+    if (!judging->found.is_there) {
+        event_log_end(&judge->log);
+    }
+    if (!is_taken(judging, status) || !look(judging, &passed)) {
+        return false;
+    }
+    judging->has_tag = false;
+    judging->has_text = false;
+    return true;
+}
+
+/* An instruction is nothing for the judge. */
+static bool take_instruction(void *context, const struct position *position, struct span target, struct span data) {
+    struct judging *judging = context;
+    (void)position;
+    (void)target;
+    (void)data;
+    judging->has_tag = false;
+    return true;
+}
+
+/* The bytes that grow with the document: those of the IDs. */
+static size_t held(const void *context) {
+    return id_check_held(&((const struct judging *)context)->judge->ids);
 }
 
 static void take_note(void *context, struct place place, const char *what) {
@@ -183,52 +300,12 @@ static bool read_counted(void *context, char *bytes, size_t size, size_t *length
     return true;
 }
 
-/* The limit that a document exceeds if its fault is at this kind of line. */
-static const char *limit_of(char kind) {
-    switch (kind) {
-    case '(':
-        return "more than 512 elements are open";
-    case 'A':
-        return "a tag has more than 256 attributes and declarations";
-    case '-':
-        return "a text has more than 1,048,576 bytes";
-    default:
-        return "a line of its PYX has more than 65,536 bytes";
-    }
-}
-
-/* Answers with the clause that the document breaks, in the words of XML. A limit of this program says nothing about the XML. */
-static void answer_broken(const struct judging *judging) {
-    struct answer *answer = judging->answer;
-    const struct line_report *broken = &judging->broken;
-    answer->clause = (int)judging->verdict.clause;
-    answer->place = broken->kind == '-' && broken->has_text ? broken->text_place : broken->own;
-    if (answer->clause == 10) {
-        answer->verdict = VERDICT_OUTSIDE;
-        bytes_format(&answer->message, "over a limit of this program: %s", limit_of(broken->kind));
-        return;
-    }
-    answer->verdict = VERDICT_MALFORMED;
-    bytes_format(&answer->message, "malformed P%d: ", answer->clause);
-    size_t length = answer->message.length;
-    probe_clause(judging->judge, broken, &judging->verdict, &answer->message);
-    if (answer->message.length == length) {
-        const char *title = rncv_clause_title('P', judging->verdict.clause);
-        bytes_add_text(&answer->message, title == NULL ? "" : title);
-    }
-    bytes_format(&answer->message, ", see %s", judging->judge->shared->page);
-}
-
-/* Answers `invalid`, and what is at the place. */
+/* Answers `invalid`, and what is wrong at the place. */
 static void answer_invalid(struct judging *judging) {
     struct answer *answer = judging->answer;
-    static const char *const words[] = {"invalid", "invalid: at <", "invalid: at attribute ", "invalid: at text \"", "invalid: at the end of <"};
-    static const char *const ends[] = {"", ">", "", "\"", ">"};
     answer->verdict = VERDICT_INVALID;
-    probe(judging->judge, &judging->reported, judging->invalid_line, answer);
-    bytes_add_text(&answer->message, words[answer->stands]);
-    add_shown(&answer->message, answer->name.data, answer->name.length, answer->stands == STANDS_TEXT ? SHOWN_CHARACTERS : SIZE_MAX);
-    bytes_add_text(&answer->message, ends[answer->stands]);
+    bytes_add_text(&answer->message, "invalid");
+    probe(judging->judge, &judging->found, answer);
 }
 
 /* Answers for a document that is valid by the schema: its IDs may be wrong. */
@@ -253,13 +330,20 @@ static void answer_valid(struct judging *judging) {
     }
 }
 
-/* The answer for a fault of the conversion. */
+/* The answer for a fault of the document, a device or memory. */
 static void answer_fault(const struct judging *judging) {
     const struct fault *fault = judging->fault;
     struct answer *answer = judging->answer;
     answer->verdict = fault->kind == FAULT_MALFORMED ? VERDICT_MALFORMED : fault->kind == FAULT_OUTSIDE ? VERDICT_OUTSIDE : VERDICT_FAILED;
     answer->place = fault->place;
+    answer->clause = fault->clause;
+    if (fault->clause != 0) {
+        bytes_format(&answer->message, "malformed P%d: ", fault->clause);
+    }
     add_shown(&answer->message, fault->what.data, fault->what.length, SIZE_MAX);
+    if (fault->clause != 0) {
+        bytes_format(&answer->message, ", see %s", judging->judge->shared->page);
+    }
     bool is_first = fault->kind == FAULT_MALFORMED && fault->place.line == 1 && fault->place.column == 1;
     if (is_first && judging->has_begun && judging->first == '(') {
         bytes_add_text(&answer->message, "; this looks like PYX: rncv reads PYX");
@@ -280,18 +364,11 @@ static void refuse_notes(struct answer *answer) {
 
 /* Ends the document, after the whole of it was passed. */
 static void end_document(struct judging *judging) {
-    struct judge *judge = judging->judge;
-    struct piece nothing = {"", 0, NULL, 0, UINT64_MAX};
-    if (rncv_document_end(&judge->schema, &judging->verdict) != RNCV_DONE) {
-        fault_set(judging->fault, FAULT_MEMORY, (struct place){0, 0}, "out of memory");
-        return;
-    }
-    if (judging->verdict.kind == RNCV_BROKEN) {
-        judging->is_broken = true;
-        judging->broken.own = judge->line_places.last;
-    } else if (judging->verdict.kind == RNCV_INVALID && judging->invalid_line == 0) {
-        judging->invalid_line = judging->verdict.line;
-        line_places_find(&judge->line_places, &nothing, judging->verdict.line, &judging->reported);
+    if (rncv_events_finish(&judging->judge->schema, &judging->verdict) != RNCV_DONE) {
+        out_of_memory(judging);
+    } else if (judging->verdict.kind == RNCV_INVALID && !judging->found.is_there) {
+        judging->found.is_there = true;
+        judging->found.is_lost = true;
     }
 }
 
@@ -299,7 +376,7 @@ static void end_document(struct judging *judging) {
 static void add_earlier(struct judging *judging) {
     static const struct answer none = NO_ANSWER;
     struct answer *answer = judging->answer;
-    bool is_known = judging->invalid_line != 0 && (answer->verdict == VERDICT_MALFORMED || answer->verdict == VERDICT_OUTSIDE);
+    bool is_known = judging->found.is_there && (answer->verdict == VERDICT_MALFORMED || answer->verdict == VERDICT_OUTSIDE);
     if (!judging->judge->shared->wants_earlier || !is_known) {
         return;
     }
@@ -315,14 +392,11 @@ static void add_earlier(struct judging *judging) {
 }
 
 static void answer_all(struct judging *judging) {
-    /* without memory something may have been left out before the place that is broken */
-    if (judging->is_broken && judging->fault->kind != FAULT_MEMORY) {
-        answer_broken(judging);
-    } else if (judging->fault->kind != FAULT_NONE) {
+    if (judging->fault->kind != FAULT_NONE) {
         answer_fault(judging);
     } else if (judging->verdict.kind == RNCV_INVALID) {
         answer_invalid(judging);
-    } else if (judging->verdict.kind == RNCV_VALID && judging->invalid_line == 0) {
+    } else if (judging->verdict.kind == RNCV_VALID && !judging->found.is_there) {
         answer_valid(judging);
     } else {
         fault_set(judging->fault, FAULT_DEVICE, (struct place){0, 0}, "the library gave no verdict");
@@ -334,28 +408,40 @@ static void answer_all(struct judging *judging) {
     }
 }
 
+static void read_source(struct judging *judging, const struct byte_source *source) {
+    const struct shared *shared = judging->judge->shared;
+    struct event_sink sink = {take_start, take_text, take_end, take_instruction, take_note, NULL, held, judging, true, shared->depth, shared->memory};
+    read_events(source, &sink, judging->fault);
+}
+
+static void read_named(struct judging *judging, const char *name) {
+    const struct shared *shared = judging->judge->shared;
+    if (source_open(&judging->source, name, shared->streams, judging->fault)) {
+        read_source(judging, &(struct byte_source){read_counted, judging, shared->loads_dtd ? beside(name) : NULL});
+        source_close(&judging->source);
+    }
+}
+
 /* Judges what the source gives, or the document of this name if there is no source. */
 static void judge_either(struct judge *judge, const struct byte_source *given, const char *name, struct answer *answer) {
     struct fault fault = NO_FAULT;
     struct judging judging;
-    struct pyx_sink sink = {take_piece, take_note, &judging};
     memset(&judging, 0, sizeof judging);
     judging.judge = judge;
     judging.answer = answer;
     judging.fault = &fault;
     judging.verdict.kind = -1;
-    line_places_clear(&judge->line_places);
-    bytes_clear(&judge->prefix);
-    judge->prefix_is_full = false;
+    event_log_clear(&judge->log);
+    if (judge->text.failed) {
+        bytes_free(&judge->text);
+    }
     id_check_begin(&judge->ids);
-    if (rncv_document_begin(&judge->schema) != RNCV_DONE) {
-        fault_set(&fault, FAULT_MEMORY, (struct place){0, 0}, "out of memory");
+    if (rncv_events_begin(&judge->schema) != RNCV_DONE) {
+        out_of_memory(&judging);
     } else if (given != NULL) {
-        convert(given, &sink, &fault);
-    } else if (source_open(&judging.source, name, judge->shared->streams, &fault)) {
-        struct byte_source source = {read_counted, &judging, judge->shared->loads_dtd ? beside(name) : NULL};
-        (judge->shared->is_by_two && judging.source.is_large ? convert_by_two : convert)(&source, &sink, &fault);
-        source_close(&judging.source);
+        read_source(&judging, given);
+    } else {
+        read_named(&judging, name);
     }
     if (fault.kind == FAULT_NONE) {
         end_document(&judging);
@@ -364,8 +450,7 @@ static void judge_either(struct judge *judge, const struct byte_source *given, c
     if (answer->message.failed || answer->notes_failed || answer->name.failed) {
         answer->verdict = answer->verdict == VERDICT_VALID ? VERDICT_FAILED : answer->verdict;
     }
-    line_report_free(&judging.reported);
-    line_report_free(&judging.broken);
+    finding_free(&judging.found);
     fault_free(&fault);
 }
 

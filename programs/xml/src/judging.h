@@ -2,9 +2,12 @@
 #ifndef JUDGING_H
 #define JUDGING_H
 
+#include "declared.h"
+#include "event_log.h"
 #include "id_check.h"
-#include "line_places.h"
+#include "library_calls.h"
 #include "program.h"
+#include "shown.h"
 
 #include <rncv.h>
 #include <stdatomic.h>
@@ -13,7 +16,7 @@
 enum verdict {
     VERDICT_VALID,
     VERDICT_INVALID,
-    VERDICT_MALFORMED, /* not well-formed XML, or not a document of the profile */
+    VERDICT_MALFORMED, /* not well-formed XML, or it breaks Namespaces in XML */
     VERDICT_OUTSIDE,   /* something in the XML is outside the profile */
     VERDICT_FAILED     /* a file, a device or memory failed */
 };
@@ -27,6 +30,19 @@ enum stands {
     STANDS_END
 };
 
+/* What is wrong at the place. */
+enum reason {
+    REASON_NOT_KNOWN,
+    REASON_ELEMENT,         /* the element is not allowed there */
+    REASON_ATTRIBUTE,       /* an attribute is not allowed */
+    REASON_ATTRIBUTE_VALUE, /* the value of an attribute is wrong */
+    REASON_MISSING,         /* attributes are missing */
+    REASON_ATTRIBUTES,      /* the attributes do not go together */
+    REASON_TEXT,            /* text is not allowed there */
+    REASON_TEXT_VALUE,      /* the text is not one of those that are allowed */
+    REASON_INCOMPLETE       /* the element ends too early */
+};
+
 /* What is left out of a document. */
 struct note {
     struct place place;
@@ -38,7 +54,12 @@ struct answer {
     struct place place; /* line 0: none */
     enum stands stands;
     struct bytes name;    /* the name of the element or the attribute, or the first characters of the text */
-    int clause;           /* 1 to 13 if the document breaks P1 to P13; else 0 */
+    int clause;           /* 6, 11 or 12 if the document breaks that clause by its names; else 0 */
+    enum reason reason;
+    struct bytes expected;  /* what could have been there instead, each as it is shown, with a zero behind it */
+    size_t expected_count;
+    struct bytes attribute; /* the attribute that is wrong; those that are missing, with a blank between two */
+    struct bytes datatype;  /* the one that the value or the text should have had */
     struct bytes message; /* what is said about the document, without the place; empty if it is valid */
     struct note *notes;
     size_t note_count;
@@ -47,7 +68,8 @@ struct answer {
 };
 
 /* No verdict yet. It is not VERDICT_VALID, so nothing is valid by accident. */
-#define NO_ANSWER {VERDICT_FAILED, {0, 0}, STANDS_NOT_KNOWN, NO_BYTES, 0, NO_BYTES, NULL, 0, false, NULL}
+#define NO_ANSWER \
+    {VERDICT_FAILED, {0, 0}, STANDS_NOT_KNOWN, NO_BYTES, 0, REASON_NOT_KNOWN, NO_BYTES, 0, NO_BYTES, NO_BYTES, NO_BYTES, NULL, 0, false, NULL}
 
 struct jobs;
 
@@ -59,12 +81,13 @@ struct shared {
     const struct id_types *ids; /* the attributes with an ID-type; NULL: IDs are not checked */
     uint32_t datatypes; /* the set that the schema was compiled with; if it is another one, words about a place may be others */
     struct streams streams;
+    size_t depth;  /* the most elements that may be open in a document; 0: as many as usual */
+    size_t memory; /* the most bytes that may be held of a document; 0: as many as usual */
     atomic_ullong bytes_read;
     const char *page;  /* where the page about the clauses is */
     bool is_strict;    /* a document with a note is outside the profile */
     bool wants_earlier; /* an answer that is malformed or outside also says where the document was invalid before */
     bool loads_dtd;    /* external DTDs and entities are read, from files */
-    bool is_by_two;    /* one thread converts a large document, and another judges it */
     struct jobs *jobs; /* the jobs that the threads work on; NULL for one thread */
     void (*tick)(void *context); /* is called now and then while a document is read */
     void *context;
@@ -74,11 +97,10 @@ struct shared {
 struct judge {
     struct shared *shared;
     rncv_schema schema;
-    rncv_schema marked; /* allows an element wherever the schema allows text */
-    bool marked_is_tried;
-    struct bytes prefix; /* the first lines of the document, to try changes to it */
-    bool prefix_is_full; /* no more lines are kept */
-    struct line_places line_places;
+    struct declared declared; /* the attributes of the schema */
+    struct event_log log; /* the first events of the document, to try changes to it */
+    struct call_room room;
+    struct bytes text; /* the first characters of the text that is being read, with no blanks before them if it has more than these (`is_cut`) */
     struct id_check ids;
 };
 
@@ -94,9 +116,5 @@ void answer_free(struct answer *answer);
 
 /* The exit status for a verdict. */
 int status_of(enum verdict verdict);
-
-/* Adds the text with its control characters and line separators written as `\n`, `\x85`, `\u2028` and the like, so that it stays on its line. Shows at most
- * `limit` characters. */
-void add_shown(struct bytes *line, const char *text, size_t length, size_t limit);
 
 #endif

@@ -586,13 +586,7 @@ static int32_t give_answer(struct held *held, int error, rncv_xml_answer *answer
 
 /* Makes the judge as good as new after memory ran out: what could not grow would stay so. */
 static void recover(struct judge *judge) {
-    if (judge->prefix.failed) {
-        bytes_free(&judge->prefix);
-    }
-    judge->ids.failed |= judge->ids.texts.failed || judge->ids.names.failed || judge->ids.prefixes.failed;
-    if (judge->line_places.tag.failed || judge->line_places.lines.failed || judge->line_places.text.failed || judge->line_places.before.failed) {
-        line_places_free(&judge->line_places);
-    }
+    judge->ids.failed |= judge->ids.texts.failed || judge->ids.names.failed;
 }
 
 /* Judges what is read. */

@@ -18,6 +18,8 @@ enum name {
     NAME_VERBOSE,
     NAME_QUIET,
     NAME_DTD,
+    NAME_MAX_DEPTH,
+    NAME_MAX_MEMORY,
     NAME_NO_IDS,
     NAME_STRICT,
     NAME_STRICT_PROFILE,
@@ -25,6 +27,8 @@ enum name {
     NAME_MOST_FILES,
     NAME_FORMAT,
     NAME_COLOR,
+    NAME_SOURCE,
+    NAME_NO_SOURCE,
     NAME_HELP,
     NAME_VERSION
 };
@@ -50,6 +54,8 @@ static const struct option known[] = {
     {"--verbose", 'v', false, NAME_VERBOSE},
     {"--quiet", 'q', false, NAME_QUIET},
     {"--dtd", 0, false, NAME_DTD},
+    {"--max-depth", 0, true, NAME_MAX_DEPTH},
+    {"--max-memory", 0, true, NAME_MAX_MEMORY},
     {"--no-ids", 0, false, NAME_NO_IDS},
     {"--strict", 0, false, NAME_STRICT},
     {"--strict-profile", 0, false, NAME_STRICT_PROFILE},
@@ -57,6 +63,8 @@ static const struct option known[] = {
     {"--most-files", 0, true, NAME_MOST_FILES}, /* for tests, and so in no help */
     {"--format", 0, true, NAME_FORMAT},
     {"--color", 0, true, NAME_COLOR},
+    {"--source", 0, false, NAME_SOURCE},
+    {"--no-source", 0, false, NAME_NO_SOURCE},
     {"--help", 'h', false, NAME_HELP},
     {"--version", 0, false, NAME_VERSION},
 };
@@ -76,6 +84,8 @@ const char *options_help(void) {
            "      --stdin-name NAME  how standard input is called in what is printed\n"
            "  -j, --jobs N         judge N documents at once, 64 at most (else the number of processors)\n"
            "      --dtd            read the external DTD and external entities of a document, from files\n"
+           "      --max-depth N    the most elements that may be open (else 10,000)\n"
+           "      --max-memory SIZE  the most memory that a document may take, in bytes, or with K, M or G (else 512M)\n"
            "      --no-ids         do not check that each ID is there once, and that what refers to one finds it\n"
            "      --strict         a document with a note, such as an external DTD that is not read, is outside the profile;\n"
            "                       a schema in the XML syntax with a note is refused\n"
@@ -91,10 +101,12 @@ const char *options_help(void) {
            "  -q, --quiet          print nothing but failures; the exit status says the rest\n"
            "      --format FORMAT  text, json (an object a line, for each document), sarif or github\n"
            "      --color WHEN     auto, always or never; NO_COLOR is respected\n"
+           "      --source         show the line of each fault, with a mark below (else on a terminal)\n"
+           "      --no-source      never show it\n"
            "  -h, --help           this text\n"
            "      --version        the version\n"
            "\n"
-           "A line is `FILE:LINE:COLUMN: invalid: at <b>`, with what is at the place; a valid document has no line.\n"
+           "A line is `FILE:LINE:COLUMN: invalid: ..`, with what is wrong and what was expected; a valid document has no line.\n"
            "Exit status, the greatest of: 0 all valid; 1 some invalid; 2 some malformed or outside the profile; 3 the schema is refused;\n"
            "4 a file or a device failed; 5 wrong words. 130 after Ctrl-C, 141 if the output is a closed pipe.\n"
            "`man rncv-xml` has more. `man rncv` is about the proved program.\n";
@@ -142,6 +154,20 @@ static bool take_jobs(struct options *options, const char *value) {
         return is_wrong(options, "--jobs wants a number, and not '%s'", value);
     }
     options->jobs = number > MOST_JOBS ? MOST_JOBS : (unsigned)number;
+    return true;
+}
+
+/* Reads a size: a number that is not 0, with K, M or G behind it if `has_unit`. */
+static bool take_size(struct options *options, const char *value, bool has_unit, size_t *size) {
+    static const char units[] = "KMG";
+    char *end;
+    unsigned long long number = value[0] < '0' || value[0] > '9' ? 0 : strtoull(value, &end, 10);
+    const char *unit = number > 0 && has_unit && *end != '\0' ? strchr(units, *end) : NULL;
+    unsigned shift = unit == NULL ? 0 : 10 * (unsigned)(unit - units + 1);
+    if (number == 0 || end[unit != NULL] != '\0') {
+        return is_wrong(options, has_unit ? "--max-memory wants a size as 64M, and not '%s'" : "--max-depth wants a number, and not '%s'", value);
+    }
+    *size = number > (unsigned long long)(SIZE_MAX / 4) >> shift ? SIZE_MAX / 4 : (size_t)number << shift;
     return true;
 }
 
@@ -211,6 +237,10 @@ static bool take_value(struct options *options, enum name name, const char *valu
     case NAME_MOST_FILES:
         options->most_files = (size_t)strtoul(value, NULL, 10);
         return true;
+    case NAME_MAX_DEPTH:
+        return take_size(options, value, false, &options->depth);
+    case NAME_MAX_MEMORY:
+        return take_size(options, value, true, &options->memory);
     case NAME_FORMAT:
         return take_format(options, value);
     case NAME_COLOR:
@@ -231,6 +261,7 @@ static void take_flag(struct options *options, enum name name) {
     options->refuses_notes |= name == NAME_STRICT;
     options->loads_dtd |= name == NAME_DTD;
     options->skips_ids |= name == NAME_NO_IDS;
+    options->source = name == NAME_SOURCE ? WHEN_ALWAYS : name == NAME_NO_SOURCE ? WHEN_NEVER : options->source;
     options->wants_help |= name == NAME_HELP;
     options->wants_version |= name == NAME_VERSION;
 }

@@ -32,12 +32,15 @@ struct options {
     const char **catalogs;
     size_t catalog_count;
     uint32_t datatypes;     /* that the schema may name: RNCV_DATATYPES_PROFILE or RNCV_DATATYPES_XML_SCHEMA */
+    size_t depth;           /* the most elements that may be open; 0: as many as usual */
+    size_t memory;          /* the most bytes that may be held of a document; 0: as many as usual */
     size_t most_files;      /* that the library gets; 0: as many as it takes */
     const char *files_from;
     const char *input_name; /* the name of standard input in what is printed */
     unsigned jobs;          /* 0: as many as there are processors */
     enum format format;
     enum when color;
+    enum when source; /* when lines of documents are shown */
     bool is_recursive;
     bool has_zeros; /* a zero byte ends each name of `files_from` */
     bool reports_all;

@@ -18,26 +18,26 @@ static size_t slot_of(uintptr_t block) {
 }
 
 /* Puts a block into a table with room for it. */
-static void put(void *block) {
-    size_t at = slot_of((uintptr_t)block);
-    while (current->slots[at] != NULL) {
+static void put(struct parser_block block) {
+    size_t at = slot_of((uintptr_t)block.block);
+    while (current->slots[at].block != NULL) {
         at = (at + 1) & (current->capacity - 1);
     }
     current->slots[at] = block;
 }
 
 static bool grow(void) {
-    void **old = current->slots;
+    struct parser_block *old = current->slots;
     size_t old_capacity = current->capacity;
     size_t capacity = old_capacity == 0 ? 256 : 2 * old_capacity;
-    void **slots = calloc(capacity, sizeof *slots);
+    struct parser_block *slots = calloc(capacity, sizeof *slots);
     if (slots == NULL) {
         return false;
     }
     current->slots = slots;
     current->capacity = capacity;
     for (size_t at = 0; at < old_capacity; at++) {
-        if (old[at] != NULL) {
+        if (old[at].block != NULL) {
             put(old[at]);
         }
     }
@@ -46,7 +46,7 @@ static bool grow(void) {
 }
 
 /* Takes a block into the table, and notes it if there is none. */
-static void *taken(void *block) {
+static void *taken(void *block, size_t size) {
     if (current == NULL || !current->is_open) {
         return block;
     }
@@ -58,42 +58,51 @@ static void *taken(void *block) {
         current->has_failed = true;
         return block;
     }
-    put(block);
+    put((struct parser_block){block, size});
     current->count++;
+    current->held += size;
     return block;
 }
 
 /* Takes the block at this slot out of the table, and moves those behind it to where they are looked for. */
 static void empty(size_t hole) {
+    const struct parser_block none = {NULL, 0};
     size_t at = hole;
-    current->slots[hole] = NULL;
+    current->held -= current->slots[hole].size;
+    current->slots[hole] = none;
     current->count--;
-    while (current->slots[at = (at + 1) & (current->capacity - 1)] != NULL) {
-        size_t wanted = slot_of((uintptr_t)current->slots[at]);
+    while (current->slots[at = (at + 1) & (current->capacity - 1)].block != NULL) {
+        size_t wanted = slot_of((uintptr_t)current->slots[at].block);
         if (((at - wanted) & (current->capacity - 1)) >= ((at - hole) & (current->capacity - 1))) {
             current->slots[hole] = current->slots[at];
-            current->slots[at] = NULL;
+            current->slots[at] = none;
             hole = at;
         }
     }
 }
 
-/* Lets a block go, if it is in the table. One that another user of libxml2 has made is not. */
-static void let_go(uintptr_t block) {
+/* The slot of a block; NULL: it is not in the table. One that another user of libxml2 has made is not. */
+static struct parser_block *slot_with(uintptr_t block) {
     if (current == NULL || current->count == 0 || block == 0) {
-        return;
+        return NULL;
     }
     size_t at = slot_of(block);
-    while (current->slots[at] != NULL && (uintptr_t)current->slots[at] != block) {
+    while (current->slots[at].block != NULL && (uintptr_t)current->slots[at].block != block) {
         at = (at + 1) & (current->capacity - 1);
     }
-    if (current->slots[at] != NULL) {
-        empty(at);
+    return current->slots[at].block == NULL ? NULL : &current->slots[at];
+}
+
+/* Lets a block go, if it is in the table. */
+static void let_go(uintptr_t block) {
+    const struct parser_block *slot = slot_with(block);
+    if (slot != NULL) {
+        empty((size_t)(slot - current->slots));
     }
 }
 
 static void *allocate(size_t size) {
-    return taken(malloc(size));
+    return taken(malloc(size), size);
 }
 
 /* If it fails, the block stays, and stays in the table. */
@@ -101,16 +110,22 @@ static void *resize(void *block, size_t size) {
     uintptr_t old = (uintptr_t)block;
     void *larger = realloc(block, size);
     if (larger == NULL) {
-        taken(NULL);
+        taken(NULL, 0);
     } else if ((uintptr_t)larger != old) {
         let_go(old);
-        taken(larger);
+        taken(larger, size);
+    } else {
+        struct parser_block *slot = slot_with(old);
+        if (slot != NULL) {
+            current->held += size - slot->size;
+            slot->size = size;
+        }
     }
     return larger;
 }
 
 static char *copy(const char *text) {
-    return taken(strdup(text));
+    return taken(strdup(text), strlen(text) + 1);
 }
 
 static void release(void *block) {
@@ -129,7 +144,7 @@ static void ignore(void *context, xmlError *error) {
 
 /* The functions for memory stay those of the process if it has set its own. */
 static void prepare(void) {
-    struct parser_memory memory = {NULL, 0, 0, true, false, NULL};
+    struct parser_memory memory = {NULL, 0, 0, 0, true, false, NULL};
     xmlFreeFunc old_free;
     xmlMallocFunc old_allocate;
     xmlReallocFunc old_resize;
@@ -173,7 +188,7 @@ bool parser_memory_prepare(void) {
 
 void parser_memory_begin(struct parser_memory *memory) {
     xmlResetLastError(); /* so that what it keeps in this thread is of no conversion */
-    *memory = (struct parser_memory){NULL, 0, 0, true, false, current};
+    *memory = (struct parser_memory){NULL, 0, 0, 0, true, false, current};
     current = memory;
 }
 
@@ -183,11 +198,15 @@ void parser_memory_pause(bool is_paused) {
     }
 }
 
+size_t parser_memory_held(void) {
+    return current == NULL ? 0 : current->held;
+}
+
 void parser_memory_end(struct parser_memory *memory) {
     xmlResetLastError();
     current = memory->outer;
     for (size_t at = 0; at < memory->capacity; at++) {
-        free(memory->slots[at]);
+        free(memory->slots[at].block);
     }
     free(memory->slots);
     memory->slots = NULL;

@@ -8,11 +8,18 @@
 #include <stdbool.h>
 #include <stddef.h>
 
+/* A block, and how many bytes it has. */
+struct parser_block {
+    void *block;
+    size_t size;
+};
+
 /* The blocks that a conversion has, in a table by hash. */
 struct parser_memory {
-    void **slots;
+    struct parser_block *slots;
     size_t capacity; /* a power of two, or 0 */
     size_t count;
+    size_t held; /* the bytes of all blocks */
     bool is_open;
     bool has_failed; /* memory ran out */
     struct parser_memory *outer; /* of the conversion in whose pause this one began */
@@ -26,6 +33,9 @@ void parser_memory_begin(struct parser_memory *memory);
 
 /* What libxml2 takes in this thread during a pause is of no conversion. */
 void parser_memory_pause(bool is_paused);
+
+/* How many bytes libxml2 has of this thread's conversion. */
+size_t parser_memory_held(void);
 
 /* Ends the conversion: frees what libxml2 still has of it. */
 void parser_memory_end(struct parser_memory *memory);

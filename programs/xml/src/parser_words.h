@@ -15,7 +15,7 @@ typedef xmlError parser_error;
 /* Whether it is an error of validity, which is no error here. */
 bool is_of_validity(parser_error *error);
 
-/* Whether the error makes the document malformed: it breaks XML 1.0, or Namespaces in XML in a way that the reader of PYX does not find by the names. */
+/* Whether the error makes the document malformed: it breaks XML 1.0, or Namespaces in XML in a way that is not found by the names of tags. */
 bool is_malformed(parser_error *error);
 
 /* Whether libxml2 does not go on at something that XML allows. */

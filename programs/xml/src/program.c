@@ -3,10 +3,7 @@
 #include <errno.h>
 #include <fcntl.h>
 #include <string.h>
-#include <sys/stat.h>
 #include <unistd.h>
-
-enum { LARGE_BYTES = 262144 };
 
 volatile sig_atomic_t bar_is_shown = 0;
 
@@ -104,8 +101,7 @@ void output_flush(struct output *output) {
 }
 
 bool source_open(struct source *source, const char *name, struct streams streams, struct fault *fault) {
-    struct stat found;
-    *source = (struct source){0, true, strcmp(name, "-") == 0, false};
+    *source = (struct source){0, true, strcmp(name, "-") == 0};
     if (source->is_input && streams.input_is_closed) {
         fault_set(fault, FAULT_DEVICE, (struct place){0, 0}, "standard input is closed");
         source->is_open = false;
@@ -119,7 +115,6 @@ bool source_open(struct source *source, const char *name, struct streams streams
         fault_set(fault, FAULT_DEVICE, (struct place){0, 0}, "%s", strerror(errno));
         return false;
     }
-    source->is_large = fstat(source->file, &found) == 0 && S_ISREG(found.st_mode) && found.st_size > LARGE_BYTES;
     return true;
 }
 

@@ -55,7 +55,6 @@ struct source {
     int file;
     bool is_open;
     bool is_input;
-    bool is_large; /* it is a file of more than a few pieces; other sources may keep a reader waiting, and are not large */
 };
 
 /* False: the fault says why. */

@@ -1,6 +1,7 @@
 #include "report.h"
 
 #include "formats.h"
+#include "source_line.h"
 
 #include <inttypes.h>
 #include <stdlib.h>
@@ -22,12 +23,18 @@ static bool wants_color(const struct options *options) {
     return isatty(1) && (none == NULL || none[0] == '\0') && terminal != NULL && strcmp(terminal, "dumb") != 0;
 }
 
+/* Whether lines of documents are shown: by default on a terminal. */
+static bool wants_source(const struct options *options) {
+    return options->format == FORMAT_TEXT && options->source != WHEN_NEVER && (options->source == WHEN_ALWAYS || isatty(1));
+}
+
 void report_open(struct report *report, const struct options *options, struct output *output, struct progress *progress) {
     memset(report, 0, sizeof *report);
     report->options = options;
     report->output = output;
     report->progress = progress;
     report->has_color = wants_color(options);
+    report->has_source = wants_source(options) && !options->is_quiet;
     if (options->format == FORMAT_SARIF && !options->is_quiet) {
         add_sarif_head(&output->waiting);
     }
@@ -87,7 +94,12 @@ void report_answer(struct report *report, const char *name, struct answer *answe
         message = "out of memory";
     }
     struct result result = {file, verdicts[answer->verdict], message, answer->place, answer->stands, &answer->name, answer->clause == 0 ? 0 : 'P',
-                            answer->clause, false, answer->notes, answer->note_count, bytes_text(&report->schema_note)};
+                            answer->clause, false, answer->notes, answer->note_count, bytes_text(&report->schema_note), answer, ""};
+    struct bytes source = NO_BYTES;
+    if (report->has_source && answer->verdict != VERDICT_VALID && strcmp(name, "-") != 0) {
+        add_source_line(&source, name, answer->place);
+        result.source = bytes_text(&source);
+    }
     int status = status_of(answer->verdict);
     report->counts[answer->verdict]++;
     report->status = status > report->status ? status : report->status;
@@ -98,12 +110,13 @@ void report_answer(struct report *report, const char *name, struct answer *answe
         }
         put(report, &result);
     }
+    bytes_free(&source);
     progress_tick(report->progress);
 }
 
 void report_schema(struct report *report, const struct schema_fault *fault) {
     struct result result = {fault->path, fault->status == STATUS_REFUSED ? "refused" : "failed", fault->message, fault->place, STANDS_NOT_KNOWN, NULL,
-                            fault->clause == 0 ? 0 : 'S', fault->clause, false, NULL, 0, ""};
+                            fault->clause == 0 ? 0 : 'S', fault->clause, false, NULL, 0, "", NULL, ""};
     report->status = fault->status > report->status ? fault->status : report->status;
     if (!report->options->is_quiet) {
         put(report, &result);

@@ -12,6 +12,7 @@ struct report {
     struct progress *progress;
     const char *page; /* where the page about the clauses is */
     bool has_color;
+    bool has_source; /* lines of documents are shown */
     bool has_begun; /* whether a result was printed */
     unsigned long long counts[VERDICT_FAILED + 1];
     int status; /* the greatest so far */

@@ -176,3 +176,7 @@ uint32_t text_table_put(struct text_table *table, struct span text) {
 uint32_t text_table_find(const struct text_table *table, struct span text) {
     return table->count == 0 ? NO_TEXT : table->slots[slot_of(table, text, hash_of(table, text))] - 1;
 }
+
+size_t text_table_held(const struct text_table *table) {
+    return table->texts.capacity + table->capacity * sizeof *table->places + table->slot_count * sizeof *table->slots;
+}

@@ -42,6 +42,9 @@ uint32_t text_table_find(const struct text_table *table, struct span text);
 /* The text of a number. It moves when a text is put in. */
 struct span text_table_text(const struct text_table *table, uint32_t number);
 
+/* How many bytes the table has. */
+size_t text_table_held(const struct text_table *table);
+
 /* Makes room for one more item in an array that has an item for each of `count` numbers. The new room is zero. False: out of memory. */
 bool items_grow(void **items, uint32_t count, uint32_t *capacity, size_t size);
 

@@ -6,7 +6,8 @@ import subprocess
 import unittest
 
 import cases
-from testing import RNCV_XML, InFolder
+import second_opinion
+from testing import RNCV, RNCV_XML, XML2PYX, InFolder
 
 LIMIT = re.compile(r"more than [0-9,]+|too many|amplification")
 # They must not be opened. Who loads them has another answer in many cases.
@@ -47,6 +48,26 @@ class Documents(InFolder):
             for case, line in zip(group, self.judged("case.rnc", names)):
                 with self.subTest(case=case.name):
                     self.assertTrue(line and is_right(case, line), f"{'|'.join(case.answers)} is right, and not {line}; {case.document[:300]}")
+
+
+    def test_the_second_opinion(self):
+        """By events and by PYX each document has the same verdict."""
+        if not RNCV.exists() or not XML2PYX.exists():
+            self.skipTest("no rncv or no xml2pyx")
+        groups = collections.defaultdict(list)
+        for case in cases.read():
+            if cases.is_known(case.encoding):
+                groups[case.schema].append(case)
+        known = 0
+        for schema, group in groups.items():
+            self.write("case.rnc", cases.compact(schema))
+            names = [self.write(f"d{number}.xml", case.data()).name for number, case in enumerate(group)]
+            for case, name, line in zip(group, names, self.judged("case.rnc", names)):
+                opinion = second_opinion.by_pyx("case.rnc", name, self.folder)
+                known += opinion is not None
+                with self.subTest(case=case.name):
+                    self.assertTrue(second_opinion.is_same(line["verdict"], line.get("clause"), opinion), f"{line}, and {opinion} by PYX")
+        self.assertGreater(known, 400)
 
 
 class Table(unittest.TestCase):

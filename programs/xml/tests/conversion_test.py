@@ -288,7 +288,7 @@ class Declared(Converted):
         begun = processor_seconds()
         for before in ("", "<!-- ' -->", "<?p '?>", "<![CDATA[']]>"):
             found = self.fault(f'<!DOCTYPE a [<!ENTITY e "{before}<x {attributes}/>">]><a>&e;</a>')[2]
-            self.assertEqual(found, "over a limit of this program: a tag has more than 256 attributes and declarations")
+            self.assertEqual(found, "over a limit of this program: a tag has more than 10,000 attributes and declarations")
         self.assertLess(processor_seconds() - begun, 3)
 
     def test_long_declarations(self):
@@ -405,11 +405,10 @@ class Costs(Converted):
             self.assertLess(processor_seconds() - begun, 3, begin)
             self.assertLess(peak, most, begin)
 
-    def test_limit_of_markup(self):
-        for begin, unit in (('<a x="', " "), ("<a ", " "), ("<b", "b"), ("<!DOCTYPE a [<!ENTITY e '", "x"),
-                            ("<a>&", "e")):
+    def test_markup_that_does_not_end(self):
+        for begin, unit in (('<a x="', " "), ("<a ", " "), ("<b", "b"), ("<!DOCTYPE a [<!ENTITY e '", "x"), ("<a>&", "e"), ("<a><!--", "x\n")):
             begun = processor_seconds()
-            self.assertRegex(self.fault(begin + unit * 20_000_000)[2], "markup of more than 16,777,216 bytes", begin)
+            self.assertRegex(self.fault(begin + unit * 20_000_000)[2], "malformed XML: |a name has more than 10,000,000 bytes", begin)
             self.assertLess(processor_seconds() - begun, 5, begin)
 
     def test_memory_does_not_grow(self):

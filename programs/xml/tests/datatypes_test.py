@@ -22,11 +22,11 @@ IN_XML = """<element name="order" xmlns="http://relaxng.org/ns/structure/1.0" da
 </element>
 """
 BAD = (
-    (GOOD.replace("+00042", "0"), "1:1: invalid: at attribute number"),
-    (GOOD.replace("+00042", "123456"), "1:1: invalid: at attribute number"),
-    (GOOD.replace("a b", "a" * 21), "1:1: invalid: at attribute see"),
-    (GOOD.replace(" 7 ", "256"), "1:34: invalid: at attribute count"),
-    (GOOD.replace("de-AT", "-"), '1:52: invalid: at text "-"'),
+    (GOOD.replace("+00042", "0"), '1:1: invalid: attribute number of <order> is no xsd:positiveInteger ("0")'),
+    (GOOD.replace("+00042", "123456"), '1:1: invalid: attribute number of <order> is an xsd:positiveInteger that the schema does not allow ("123456")'),
+    (GOOD.replace("a b", "a" * 21), f'1:1: invalid: attribute see of <order> is an xsd:anyURI that the schema does not allow ("{"a" * 21}")'),
+    (GOOD.replace(" 7 ", "256"), '1:34: invalid: attribute count of <line> is no xsd:unsignedByte ("256")'),
+    (GOOD.replace("de-AT", "-"), '1:52: invalid: the text of <line> is no xsd:language ("-")'),
 )
 SPELLED = "are judged by their spelling"
 # Schemas with datatypes that depend on the document, and the note.
@@ -71,7 +71,8 @@ class Sets(InFolder):
         self.write("s.rnc", "element a { xsd:integer }")
         self.write("long.xml", f"<a>{'9' * 39}</a>")
         self.assertEqual(self.judge("--all", "s.rnc", "long.xml"), ("long.xml: valid\n", 0))
-        self.assertEqual(self.judge("--datatypes", "profile", "s.rnc", "long.xml"), (f'long.xml:1:4: invalid: at text "{"9" * 39}"\n', 1))
+        self.assertEqual(self.judge("--datatypes", "profile", "s.rnc", "long.xml"),
+                         (f'long.xml:1:4: invalid: the text of <a> is an xsd:integer that the schema does not allow ("{"9" * 39}")\n', 1))
         self.write("s.rnc", 'element a { xsd:integer { minInclusive = "5" maxInclusive = "4" } }')
         self.assertEqual(self.run_in(RNCV_XML, "--datatypes", "profile", "s.rnc")[2], 0)
         self.assertIn("leave no value between them", self.judge("s.rnc")[0])
@@ -79,7 +80,7 @@ class Sets(InFolder):
     def test_pattern(self):
         """Each pattern restricts the type, in the larger set alone."""
         self.write("s.rnc", 'element a { xsd:NCName { pattern = "[a-c]+" pattern = "..." } }')
-        for text, verdict, status in (("abc", "valid", 0), ("abd", 'invalid: at text "abd "', 1), ("ab", 'invalid: at text "ab "', 1)):
+        for text, verdict, status in (("abc", "valid", 0), ("abd", 'invalid: the text of <a> is an xsd:NCName that the schema does not allow ("abd ")', 1), ("ab", 'invalid: the text of <a> is an xsd:NCName that the schema does not allow ("ab ")', 1)):
             self.write("a.xml", f"<a> {text} </a>")
             out, found = self.judge("--all", "s.rnc", "a.xml")
             self.assertEqual((re.sub(":[0-9]+:[0-9]+:", ":", out), found), (f"a.xml: {verdict}\n", status))
@@ -176,8 +177,8 @@ class Spelled(InFolder):
 
     def test_prefixes_and_entities_are_not_looked_up(self):
         self.write("s.rnc", "element a { attribute b { xsd:QName }, xsd:ENTITIES }")
-        for document, wanted in (('<a b="p:x">e f</a>', "valid"), ('<a b="p:x:y">e</a>', "invalid: at attribute b"),
-                                 ('<a b="p">:</a>', 'invalid: at text ":"')):
+        for document, wanted in (('<a b="p:x">e f</a>', "valid"), ('<a b="p:x:y">e</a>', 'invalid: attribute b of <a> is wrong ("p:x:y"); expected xsd:QName'),
+                                 ('<a b="p">:</a>', 'invalid: the text of <a> is no xsd:ENTITIES (":")')):
             self.write("a.xml", document)
             self.assertTrue(self.judge("--all", "s.rnc", "a.xml")[0].endswith(f": {wanted}\n"), document)
 

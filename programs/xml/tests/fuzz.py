@@ -1,5 +1,6 @@
 """The loop of fuzz.sh:   fuzz.py SECONDS FOLDER"""
 import io
+import json
 import os
 import pathlib
 import random
@@ -9,7 +10,8 @@ import time
 
 import differences
 import generated
-from testing import RNCV_XML, XML2PYX
+import second_opinion
+from testing import RNCV, RNCV_XML, XML2PYX
 
 import pyx_writer
 
@@ -62,10 +64,24 @@ def one(seed, folder):
         return f"xml2pyx ends with {status}: {reported}, and the converter in Python says {reported_in_python}"
     if RNCV_XML.exists():
         for name in ("s0.rnc", "s1.rnc"):
-            judged, _, fault = ran([RNCV_XML, "-j1", "--all", name, "d.xml"], folder)
-            if fault or (status == 2 and judged != 2):
-                return fault or f"rncv-xml ends with {judged}, and xml2pyx with {status}"
+            fault = differs(name, status, folder)
+            if fault:
+                return fault
     return None
+
+
+def differs(schema, status, folder):
+    """What is wrong with the answer of rncv-xml, if anything. `status` is that of xml2pyx."""
+    run = subprocess.run([RNCV_XML, "-j1", "--format", "json", schema, "d.xml"], cwd=folder, capture_output=True, timeout=60, check=False)
+    errors = run.stderr.decode("utf-8", "replace")
+    if run.returncode not in range(5) or "Sanitizer" in errors or "runtime error" in errors:
+        return f"rncv-xml: status {run.returncode}\n{errors[-3000:]}"
+    answer = json.loads(run.stdout)
+    is_of_pyx = status == 2 and run.returncode != 2
+    if is_of_pyx and "65,536 bytes" not in ran([XML2PYX, "d.xml"], folder)[1]:
+        return f"rncv-xml says {answer}, and xml2pyx ends with {status}"
+    opinion = second_opinion.by_pyx(schema, "d.xml", folder) if RNCV.exists() else None
+    return None if second_opinion.is_same(answer["verdict"], answer.get("clause"), opinion) else f"rncv-xml says {answer}, and by PYX it is {opinion}"
 
 
 def main():

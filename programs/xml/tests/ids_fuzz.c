@@ -1,4 +1,4 @@
-/* Gives changed simple forms and changed PYX to what checks IDs, which ids_fuzz.py builds with the sanitizers:   ids_fuzz SECONDS SEED FORM..
+/* Gives changed simple forms, and documents of some tags, to what checks IDs, which ids_fuzz.py builds with the sanitizers:   ids_fuzz SECONDS SEED FORM..
  *
  * Each file FORM has a printed simple form with marks. None of the calls may do anything that the sanitizers report. The ID-types of a form that is not changed
  * are the same each time. */
@@ -22,7 +22,7 @@ static const char *const words[] = {
     "{ minLength = \"000000001\" }", "{ minLength = \"0000001\" }", "p0", "p1", "e0", "e1", "e99999999", "p4294967296", "p3 = p3, p3\n", "p0 = p0+\n",
     "e0 = element a { p0 }\n", "start = ", "namespace n0 = \"\"\n", "\"", "'", " ~ ", "\\x{A}", "\\x{0}", "\\x{", "#", "(", ")", "\xFF", "text",
     "notAllowed", "=", "\n", ">>", "[",
-    "xmlns:n", "Axmlns u\n", "Axmlns:n urn:n\n", "Aid x\n", "(a\n", ")a\n", "An:id x\\n y\n", "A\n", "(\n", "\\", "-t\n", "Aref x\n", "Arefs x y x\n"};
+    "\\"};
 
 static void change(struct bytes *text) {
     for (size_t left = chance(MOST_CHANGES) + 1; left > 0; left--) {
@@ -45,39 +45,46 @@ static void change(struct bytes *text) {
     }
 }
 
-/* Lines of a document, in pieces. */
+struct place place_of(const struct position *position) {
+    return (struct place){position->at, 1};
+}
+
+static struct span span_of(const char *text) {
+    return (struct span){text, strlen(text)};
+}
+
+/* A document of some tags. */
+static void check_document(struct id_check *check) {
+    static const char *const names[] = {"r", "a", "b", "id", "ref", "refs", "x"};
+    static const char *const uris[] = {"", "urn:n", "http://www.w3.org/XML/1998/namespace"};
+    static const char *const values[] = {"x", "y", " x  y\n z", "", "q", "\t", "x x"};
+    for (uint64_t tag = 1; tag < 8; tag++) {
+        struct event_attribute attributes[4];
+        size_t count = chance(5);
+        for (size_t at = 0; at < count; at++) {
+            struct event_name name = {span_of(chance(2) == 0 ? "" : "p"), span_of(names[chance(7)]), span_of(uris[chance(3)])};
+            attributes[at] = (struct event_attribute){name, span_of(values[chance(7)])};
+        }
+        struct start_event start = {.position = {NULL, tag, NULL}, .name = {span_of(""), span_of(names[chance(7)]), span_of(uris[chance(3)])}};
+        start.attributes = attributes;
+        start.attribute_count = count;
+        if (!id_check_take(check, &start)) {
+            abort();
+        }
+    }
+}
+
 static void check(const struct id_types *types) {
-    static const char lines[] = "(r\nAxmlns:n urn:n\nAid x\n(a\nAid y\nAref x\nArefs x  y\\n z\n)a\n-text\n"
-                                "(n:a\nAxmlns:n \nAn:id x\nAxml:id q\n)n:a\n(b\nAxmlns urn:n\n)b\n)r\n";
     struct id_check check;
     id_check_open(&check, types);
     for (int document = 0; document < 3; document++) {
-        struct bytes text = NO_BYTES;
-        bytes_add_text(&text, lines);
-        if (document > 0) {
-            change(&text);
-        }
         id_check_begin(&check);
-        for (size_t at = 0; at < text.length;) {
-            struct place places[4] = {{1, 1}, {2, 2}, {3, 3}, {4, 4}};
-            size_t end = at;
-            size_t count = 0;
-            for (size_t most = chance(4) + 1; count < most && end < text.length; count++) {
-                const char *feed = memchr(text.data + end, '\n', text.length - end);
-                end = feed == NULL ? text.length : (size_t)(feed - text.data) + 1;
-            }
-            struct piece piece = {text.data + at, end - at, places, count, 1};
-            if (piece.bytes[piece.length - 1] == '\n' && !id_check_take(&check, &piece)) {
-                abort();
-            }
-            at = end;
-        }
+        check_document(&check);
         struct id_fault fault = id_check_end(&check);
         if (fault.is_there) {
             text_table_text(&check.texts, fault.text);
             text_table_text(&check.names, fault.name);
         }
-        bytes_free(&text);
     }
     id_check_close(&check);
 }

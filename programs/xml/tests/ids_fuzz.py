@@ -1,5 +1,5 @@
 #!/usr/bin/env python3
-"""Changed simple forms, and changed PYX, for what checks IDs:   programs/xml/tests/ids_fuzz.py [SECONDS [SEED]]
+"""Changed simple forms, and documents of some tags, for what checks IDs:   programs/xml/tests/ids_fuzz.py [SECONDS [SEED]]
 
 It needs a C compiler with sanitizers, and the built `rncv` (RNCV_PROGRAM), which prints the simple forms of copies that `rncv-profile` writes. It is not in the
 gate. ids_fuzz.c says what must hold.

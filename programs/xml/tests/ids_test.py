@@ -39,8 +39,8 @@ DOCUMENTS = (
     ('<r id="x">\n<a id="x"/>\n<a ref="y"/></r>', '2:1: ID "x" is already at line 1'),
     ('<r>\n<a ref="y"/>\n<a ref="z"/>\n<a id="y"/></r>', '3:1: no ID "z"'),
     # what the schema does not take comes first
-    ('<r id="x">\n<a id="x"/>\n<c/>\n</r>', "3:1: at <c>"),
-    ('<r id="x"><a id="x y"/></r>', "1:11: at attribute id"),
+    ('<r id="x">\n<a id="x"/>\n<c/>\n</r>', "3:1: <c> is not allowed here; expected <a>, <b>, {urn:n}a or {urn:n}b"),
+    ('<r id="x"><a id="x y"/></r>', '1:11: attribute id of <a> is no xsd:TYPE ("x y")'),
     # by the names of the element and the attribute
     ('<r id="x"><b id="x"/></r>', ""),
     ('<r id="x"><a other="x"/><b x="x" y="x"/></r>', ""),
@@ -96,9 +96,9 @@ SOUND = (
 
 
 class OnCopies:
-    """Tests on copies that `rncv-profile` writes with the options MADE, by `rncv-xml` with the options JUDGED."""
+    """Tests on copies that `rncv-profile` writes with the options MADE, by `rncv-xml` with the options JUDGED. There IDs are of TYPE."""
 
-    MADE, JUDGED = (), ()
+    MADE, JUDGED, TYPE = (), (), "NCName"
 
     def copied(self, schema):
         self.write("s.rnc", schema)
@@ -118,7 +118,8 @@ class OnCopies:
                 self.write("d.xml", document)
                 out, status = self.judge(*self.JUDGED, "copy/s.rnc", "d.xml")
                 told = out.removeprefix("d.xml:").replace(": invalid: ", ": ").rstrip("\n")
-                self.assertEqual((told, status) if wanted != "malformed" else status, (wanted, int(wanted != "")) if wanted != "malformed" else 2)
+                line = wanted.replace("TYPE", self.TYPE)
+                self.assertEqual((told, status) if wanted != "malformed" else status, (line, int(line != "")) if wanted != "malformed" else 2)
                 self.assertIn(self.judge(*self.JUDGED, "--no-ids", "copy/s.rnc", "d.xml")[1], (0,) if "ID" in wanted or not wanted else (1, 2))
 
     def test_schemas_that_are_not_sound(self):
@@ -137,7 +138,7 @@ class OnCopies:
 class Names(OnCopies, InFolder):
     """The datatypes of IDs themselves, of the larger set. Those of the compatibility library become those of XML Schema in a copy."""
 
-    MADE = ("--datatypes", "xml-schema")
+    MADE, TYPE = ("--datatypes", "xml-schema"), "ID"
 
     def test_a_schema_without_a_copy(self):
         self.write("s.rnc", 'namespace n = "urn:n"\n' + PARTS.replace(" d:ID", " xsd:ID"))

@@ -36,10 +36,10 @@ struct row {
 
 static const struct row rows[] = {
     {"<a x='1'><b>two</b></a>", RNCV_XML_VALID, RNCV_XML_AT_UNKNOWN, 0, 0, 0, "", ""},
-    {"<a x='1'>\n <c>two</c></a>", RNCV_XML_INVALID, RNCV_XML_AT_ELEMENT, 0, 2, 2, "c", "invalid: at <c>"},
-    {"<a x='2'><b>two</b></a>", RNCV_XML_INVALID, RNCV_XML_AT_ATTRIBUTE, 0, 1, 1, "x", "invalid: at attribute x"},
-    {"<a x='1'><b>three</b></a>", RNCV_XML_INVALID, RNCV_XML_AT_TEXT, 0, 1, 13, "three", "invalid: at text \"three\""},
-    {"<a x='1'>\n</a>", RNCV_XML_INVALID, RNCV_XML_AT_END, 0, 2, 1, "a", "invalid: at the end of <a>"},
+    {"<a x='1'>\n <c>two</c></a>", RNCV_XML_INVALID, RNCV_XML_AT_ELEMENT, 0, 2, 2, "c", "invalid: <c> is not allowed here; expected <b>"},
+    {"<a x='2'><b>two</b></a>", RNCV_XML_INVALID, RNCV_XML_AT_ATTRIBUTE, 0, 1, 1, "x", "invalid: attribute x of <a> is wrong (\"2\"); expected \"1\""},
+    {"<a x='1'><b>three</b></a>", RNCV_XML_INVALID, RNCV_XML_AT_TEXT, 0, 1, 13, "three", "invalid: the text of <b> is wrong (\"three\"); expected \"two\""},
+    {"<a x='1'>\n</a>", RNCV_XML_INVALID, RNCV_XML_AT_END, 0, 2, 1, "a", "invalid: <a> ends too early: expected <b>"},
     {"<a x='1'><b>two</c></a>", RNCV_XML_MALFORMED, RNCV_XML_AT_UNKNOWN, 0, 1, 0, "", ""},
     {"", RNCV_XML_MALFORMED, RNCV_XML_AT_UNKNOWN, 0, 1, 0, "", ""},
     {"<a x='1'><y:b/></a>", RNCV_XML_MALFORMED, RNCV_XML_AT_UNKNOWN, 11, 1, 10, "", "malformed P11"},
@@ -358,13 +358,13 @@ static void sets(rncv_xml_judge *judge) {
     CHECK(rncv_xml_judge_open("larger.rnc", NULL, 0, &own, &fault) == RNCV_REFUSED && fault.clause == 12 && own.hidden == NULL);
     CHECK(strstr(fault.message, ": hint: xsd:positiveInteger is of the datatypes xml-schema, and not of those of the profile: ") != NULL);
     CHECK(rncv_xml_judge_open_with("larger.rnc", NULL, 0, RNCV_DATATYPES_XML_SCHEMA, &own, &fault) == RNCV_DONE && fault.message == NULL);
-    CHECK(says(&own, good, RNCV_XML_VALID, "") && says(&own, bad, RNCV_XML_INVALID, "invalid: at attribute b"));
+    CHECK(says(&own, good, RNCV_XML_VALID, "") && says(&own, bad, RNCV_XML_INVALID, "invalid: attribute b of <a> is no xsd:positiveInteger (\"0\")"));
     CHECK(rncv_compile_with(&file, 1, RNCV_DATATYPES_XML_SCHEMA, &schema, &refused) == RNCV_DONE);
     CHECK(rncv_xml_judge_new_with(&schema, &file, 1, RNCV_DATATYPES_XML_SCHEMA, &other) == RNCV_DONE && says(&other, good, RNCV_XML_VALID, ""));
-    CHECK(says(&other, text, RNCV_XML_INVALID, "invalid: at text \"-\""));
+    CHECK(says(&other, text, RNCV_XML_INVALID, "invalid: the text of <a> is no xsd:Name (\"-\")"));
     /* with another set the verdicts are the same */
     CHECK(rncv_xml_judge_new(&schema, &file, 1, &other) == RNCV_DONE && says(&other, good, RNCV_XML_VALID, ""));
-    CHECK(says(&other, text, RNCV_XML_INVALID, "invalid: at text \"-\"") && says(&other, bad, RNCV_XML_INVALID, "invalid: at attribute b"));
+    CHECK(says(&other, text, RNCV_XML_INVALID, "invalid: the text of <a> is no xsd:Name (\"-\")") && says(&other, bad, RNCV_XML_INVALID, "invalid: attribute b of <a> is no xsd:positiveInteger (\"0\")"));
     CHECK(rncv_xml_hint_find(&file, NULL, 1, 12, &hint) == RNCV_DONE && hint.line == 1 && hint.column == 27);
     CHECK(rncv_xml_hint_find_with(&file, NULL, 1, 12, RNCV_DATATYPES_XML_SCHEMA, &hint) == RNCV_DONE && hint.line == 0);
     refused = (rncv_fault){12, -1, -1, -1, -1};

@@ -202,7 +202,7 @@ class Used(InLibrary):
         out, errors, _ = self.run_in(RNCV_XML, "--all", "s.rnc", *names)
         self.assert_same(run.stdout, out)
         self.assert_same(run.stderr, errors)
-        for word in ("valid", "invalid: at <", "invalid: at attribute", "invalid: at text", "invalid: at the end", "malformed XML", "malformed P", "outside"):
+        for word in ("valid", "invalid: <", "invalid: attribute", "invalid: the text", "ends too early", "malformed XML", "malformed P", "outside"):
             self.assertIn(word, out)
         self.assertIn("note:", errors)
 

@@ -35,7 +35,7 @@ class Recipes(InFolder):
         self.write("Makefile", self.recipe("Makefile"))
         self.assertEqual(self.run_shell("make -s good.checked"), ("", 0))
         out, status = self.run_shell("make -s bad.checked")
-        self.assertRegex(out, r"^bad\.xml:3:3: invalid: at <c>\n")
+        self.assertRegex(out, r"^bad\.xml:3:3: invalid: <c> is not allowed here; expected the end of <a>\n")
         self.assertNotEqual(status, 0)
         self.assertEqual(sorted(path.name for path in self.folder.glob("*.checked")), ["good.checked"])
 
@@ -48,13 +48,13 @@ class Recipes(InFolder):
         self.assertEqual(self.run_shell("git add schema.rnc && git commit -qm 1"), ("", 0))
         self.assertEqual(self.run_shell("git add 'good one.xml' && git commit -qm 2"), ("", 0))
         out, status = self.run_shell("git add bad.xml && git commit -qm 3")
-        self.assertEqual((out, status, self.run_shell("git log --format=%s")[0]), ("bad.xml:3:3: invalid: at <c>\n", 1, "2\n1\n"))
+        self.assertEqual((out, status, self.run_shell("git log --format=%s")[0]), ("bad.xml:3:3: invalid: <c> is not allowed here; expected the end of <a>\n", 1, "2\n1\n"))
 
     def test_the_hook_of_pre_commit(self):
         page = (TOP / ".pre-commit-hooks.yaml").read_text()
         entry = re.search(r"entry: (.*)", page)[1]
         arguments = re.search(r"args: \[(.*)\]", self.PAGE)[1].split(", ")
-        self.assertEqual(self.judge_by(entry, *arguments, "good.xml", "bad.xml"), ("bad.xml:3:3: invalid: at <c>\n", 1))
+        self.assertEqual(self.judge_by(entry, *arguments, "good.xml", "bad.xml"), ("bad.xml:3:3: invalid: <c> is not allowed here; expected the end of <a>\n", 1))
 
     def judge_by(self, entry, *words):
         self.assertEqual(entry, "rncv-xml")
@@ -64,7 +64,7 @@ class Recipes(InFolder):
         self.wanted("git")
         script = "\n".join(re.findall(r"^ *- (.*)$", self.recipe("A CI job"), re.M))
         self.assertEqual(self.run_shell(f"git init -q && git add good.xml\n{script}"), ("", 0))
-        self.assertEqual(self.run_shell(f"git add bad.xml\n{script}"), ("bad.xml:3:3: invalid: at <c>\n", 1))
+        self.assertEqual(self.run_shell(f"git add bad.xml\n{script}"), ("bad.xml:3:3: invalid: <c> is not allowed here; expected the end of <a>\n", 1))
 
     def test_problem_matchers(self):
         for heading, number, path in (("A CI job", 1, ("problemMatcher", 0)), ("An editor", 0, ("tasks", 0, "problemMatcher"))):
@@ -74,7 +74,7 @@ class Recipes(InFolder):
             pattern = found["pattern"][0] if isinstance(found["pattern"], list) else found["pattern"]
             out, _ = self.judge("schema.rnc", "bad.xml")
             groups = re.match(pattern["regexp"], out.rstrip()).groups()
-            self.assertEqual(tuple(groups[pattern[name] - 1] for name in ("file", "line", "column", "message")), ("bad.xml", "3", "3", "invalid: at <c>"))
+            self.assertEqual(tuple(groups[pattern[name] - 1] for name in ("file", "line", "column", "message")), ("bad.xml", "3", "3", "invalid: <c> is not allowed here; expected the end of <a>"))
 
     def test_xinclude(self):
         self.wanted("xmllint")

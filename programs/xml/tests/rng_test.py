@@ -396,7 +396,7 @@ class Judged(InRng):
 
     def test_answers(self):
         self.write("a.rng", schema("<element @ name='a'><attribute name='x'/><choice><element name='b'><empty/></element><text/></choice></element>"))
-        self.assertEqual(self.judge("--all", "a.rng", "good.xml", "bad.xml"), ("good.xml: valid\nbad.xml:3:3: invalid: at <c>\n", 1))
+        self.assertEqual(self.judge("--all", "a.rng", "good.xml", "bad.xml"), ("good.xml: valid\nbad.xml:3:3: invalid: <c> is not allowed here; expected the end of <a>\n", 1))
 
     def test_both_kinds(self):
         self.write("main.rnc", 'include "sch/b.rng"\nstart = a')

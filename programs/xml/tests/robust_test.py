@@ -71,7 +71,7 @@ class Lists(InFolder):
         return run
 
     def test_a_client_that_waits_for_each_answer(self):
-        answers = {"good.xml": "good.xml: valid\n", "bad.xml": "bad.xml:3:3: invalid: at <c>\n", "none.xml": "none.xml: No such file or directory\n"}
+        answers = {"good.xml": "good.xml: valid\n", "bad.xml": "bad.xml:3:3: invalid: <c> is not allowed here; expected the end of <a>\n", "none.xml": "none.xml: No such file or directory\n"}
         for jobs in ("1", "4"):
             for end, words in (("\n", ()), ("\0", ()), ("\0", ("--null",)), ("\0", ("-0",))):
                 run = self.client("-j", jobs, *words, "s.rnc")
@@ -89,7 +89,7 @@ class Lists(InFolder):
         run.stdin.write(b"good.xml\npipe.xml\nbad.xml\ngood.xml\n")
         self.assertEqual(self.read_line(run), "good.xml: valid\n")
         (self.folder / "pipe.xml").write_text('<a x="1"/>')
-        self.assertEqual([self.read_line(run) for _ in range(3)], ["pipe.xml: valid\n", "bad.xml:3:3: invalid: at <c>\n", "good.xml: valid\n"])
+        self.assertEqual([self.read_line(run) for _ in range(3)], ["pipe.xml: valid\n", "bad.xml:3:3: invalid: <c> is not allowed here; expected the end of <a>\n", "good.xml: valid\n"])
         run.stdin.close()
         self.assertEqual(run.wait(SECONDS), 1)
 

@@ -8,7 +8,8 @@ use Rattle.rng_model.specs.declared.outcome.Outcome.{Outcome}
 use Rattle.element_events.specs.views.Kept.{Kept, Stands}
 use Rattle.element_events.specs.declared.fault.EventFault.{EventFault}
 use Rattle.element_events.specs.declared.fault.EventFault.TheVariants as faults
-use Rattle.rng_deriv.specs.views.Matchers.{Knows, Matching, failed_line}
+use Rattle.rng_deriv_events.specs.views.Positions.{failed_line}
+use Rattle.rng_deriv.specs.views.Matchers.{Knows, Matching}
 use Rattle.rng_deriv.specs.declared.matcher_state.MatcherState.{MatcherState}
 
 -- a grammar, the calls that were taken, what the grammar says of their events, and the fault that every call returns

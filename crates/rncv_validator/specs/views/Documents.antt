@@ -6,7 +6,7 @@ use Rattle.rng_model.specs.documents.Lines.{lines}
 use Rattle.rng_model.specs.documents.PyxClauses.{IsFirstFault}
 use Rattle.rng_model.specs.documents.PyxTrees.{IsPyxDocument, Placed, events_of}
 use Rattle.rng_model.specs.declared.fault.OutOfMemory.{OutOfMemory}
-use Rattle.rng_deriv.specs.views.Matchers.{failed_line}
+use Rattle.rng_deriv_events.specs.views.Positions.{failed_line}
 use Rattle.rncv_model.specs.answers.Verdict.{CannotBeValid, StartsUnknown}
 use Rattle.rncv_model.specs.declared.verdict.Verdict.{Verdict}
 use Rattle.rncv_model.specs.declared.verdict.Verdict.TheVariants.{Malformed}

@@ -1,5 +1,5 @@
 -- A matcher, as its callers see it.
-use Rattle.std.specs.Prelude.{◌≡◌, ℕ, List, ◌++◌, Option, Some, None}
+use Rattle.std.specs.Prelude.{◌≡◌, ℕ, List, ◌++◌}
 use Rattle.rng_model.specs.simple.Table.{Table}
 use Rattle.rng_model.specs.documents.PyxTrees.{Event}
 use Rattle.rng_model.specs.matching.GrammarMatching.{Reading, reading_of}
@@ -10,7 +10,6 @@ use Rattle.rng_deriv_events.specs.views.Positions.{IsFailed, IsKnown, IsLost, Is
 use Rattle.rng_deriv.specs.views.Serving.{Serves, nodes_of}
 use Rattle.rng_deriv.specs.declared.matcher_state.MatcherState.{MatcherState}
 use Rattle.rng_deriv_events.specs.declared.progress.Progress.{Progress}
-use Rattle.rng_deriv_events.specs.declared.progress.Progress.TheVariants as progress
 
 -- a grammar, the patterns that are made of it, and what is known of a document by them
 pub record Matching : Type 0 where
@@ -46,17 +45,11 @@ pub record HasGoneOn (first m : Matching) (es : List Event) : Type 0 where
   pub failed : (line : ℕ) → HasFailedAt first line → HasFailedAt m line
   pub kept : HasRunOut m → HasRunOut first
 
--- the line after which no continuation is valid, if it is known
-abbrev pub failed_line : Progress → Option ℕ
-failed_line (progress.Going p line) = None
-failed_line (progress.Failed line) = Some line
-failed_line progress.Lost = None
-
 -- a state, with the grammar
 abbrev pub matching_in : Table → MatcherState → Matching
-matching_in t s = record { grammar = t; patterns = nodes_of s.learned; progress = s.progress }
+matching_in t s = record { grammar = t; patterns = nodes_of s.learned.value; progress = s.progress }
 
 -- the state is that of a matcher by this grammar
 pub record IsStateBy (t : Table) (s : MatcherState) : Type 0 where
-  pub serves : Serves t s.learned
-  pub inside : IsProgressInside (reading_of t) s.learned.keys (trees t (nodes_of s.learned)) s.progress
+  pub serves : Serves t s.learned.value
+  pub inside : IsProgressInside (reading_of t) s.learned.value.keys (trees t (nodes_of s.learned.value)) s.progress

@@ -1,5 +1,6 @@
 -- What a matcher knows between two events.
-use Rattle.std.specs.Prelude.{◌≡◌, ◌⊎◌, ⊤, ℕ, List, [], ◌∷◌, ◌++◌, length, All, Bool, true, false}
+use Rattle.std.specs.Prelude.{◌≡◌, ◌⊎◌, ⊤, ℕ, List, [], ◌∷◌, ◌++◌, length, map, All, false, Box, Option, Some, None}
+use Rattle.std.specs.Global.{Global}
 use Rattle.std.specs.List.{Contains}
 use Rattle.rng_names.specs.plain.Keys.{Keys}
 use Rattle.rng_model.specs.simple.Tree.{Simple}
@@ -7,13 +8,16 @@ use Rattle.rng_model.specs.documents.PyxTrees.{Event, EventKind}
 use Rattle.rng_model.specs.matching.GrammarMatching.{Reading}
 use Rattle.rng_deriv_laws.specs.plain.Derivatives.{is_not_allowed}
 use Rattle.rng_deriv_laws.specs.plain.Events.{kinds}
-use Rattle.rng_deriv_laws.specs.plain.LevelEvents.{LevelMatcher, StepsTo, StandsFor}
-use Rattle.rng_deriv_events.specs.views.Numbers.{Longer}
+use Rattle.rng_deriv_laws.specs.plain.LevelEvents.{LevelMatcher, SettlesLevels, StepsTo, StandsFor}
+use Rattle.rng_deriv_laws.specs.plain.LevelStates.{LevelState}
+use Rattle.rng_deriv_events.specs.views.Numbers.{IsInside, Longer, tree_of}
 use Rattle.rng_deriv_events.specs.views.States.{state_of, IsStateInside}
 use Rattle.rng_deriv_events.specs.views.Strings.{IsHeld, IsHeldInside}
 use Rattle.rng_deriv_events.specs.views.OpenPositions.{OpenPosition, IsPositionKept, open_position}
 use Rattle.rng_model.specs.matching.Outcomes.{KnowsName}
 use Rattle.rng_deriv_laws.specs.plain.Outcomes.{FailsAt}
+use Rattle.rng_deriv_events.specs.views.LevelsLeft.{LevelLeft, left_of}
+use Rattle.rng_deriv_events.specs.declared.left.Left.{Left}
 use Rattle.rng_deriv_events.specs.declared.position.Position.{Position}
 use Rattle.rng_deriv_events.specs.declared.progress.Progress.{Progress}
 use Rattle.rng_deriv_events.specs.declared.progress.Progress.TheVariants as progress
@@ -58,20 +62,43 @@ pub record HasCome (g : Reading) (trees : List (Simple ℕ)) (p : OpenPosition) 
   pub left : IsSomeLeft matcher.state.now es
   pub last : IsLastLine es line
 
--- what is known of a document that might have been valid, after the event of this line: it may still be valid, or not
-abbrev pub progress_at : Bool → Position → ℕ → Progress
-progress_at true p line = progress.Going p line
-progress_at false p line = progress.Failed line
+-- the events lead to what is left
+pub record LeadTo (g : Reading) (trees : List (Simple ℕ)) (l : LevelLeft) (es : List Event) : Type 0 where
+  pub matcher : LevelMatcher
+  pub stands : StandsFor g matcher (kinds es)
+  -- the state behind the held string, given that an element is beside it
+  pub settled : LevelState
+  pub settles : SettlesLevels g matcher.held matcher.state settled
+  pub now : settled.now ≡ map (tree_of trees) l.now
+  pub has_begun : matcher.has_begun ≡ l.has_begun
+  pub no_string : l.has_string ≡ false → matcher.held ≡ []
+
+-- nothing is left after one of the events, at this line; the events before it lead to what was left
+pub record FailsWith (g : Reading) (trees : List (Simple ℕ)) (l : LevelLeft) (es : List Event) (line : ℕ) : Type 0 where
+  pub fails : FailsAt g es line
+  pub left : LeadTo g trees l fails.before
+
+-- what is known of a document that might have been valid, after the event of this line: it may still be valid, or else
+-- this was left before the event
+abbrev pub progress_at : Option Left → Box Position Global → ℕ → Progress
+progress_at None p line = progress.Going p line
+progress_at (Some left) p line = progress.Failed line left
 
 -- what is kept is right by the patterns of a table
 abbrev pub IsProgressInside : Reading → Keys → List (Simple ℕ) → Progress → Type 0
-IsProgressInside g keys trees (progress.Going p line) = IsPositionKept g keys trees p
-IsProgressInside g keys trees (progress.Failed line) = ⊤
+IsProgressInside g keys trees (progress.Going p line) = IsPositionKept g keys trees p.value
+IsProgressInside g keys trees (progress.Failed line left) = All (IsInside trees) left.alternatives.items
 IsProgressInside g keys trees progress.Lost = ⊤
+
+-- the line after which no continuation is valid, if it is known
+abbrev pub failed_line : Progress → Option ℕ
+failed_line (progress.Going p line) = None
+failed_line (progress.Failed line left) = Some line
+failed_line progress.Lost = None
 
 -- no continuation after this line is valid
 abbrev pub IsFailed : ℕ → Progress → Type 0
-IsFailed line p = p ≡ progress.Failed line
+IsFailed line p = failed_line p ≡ Some line
 
 -- a call ran out of memory
 abbrev pub IsLost : Progress → Type 0
@@ -79,10 +106,16 @@ IsLost p = p ≡ progress.Lost
 
 -- what is known represents the events
 abbrev pub IsKnown : Reading → List (Simple ℕ) → Progress → List Event → Type 0
-IsKnown g trees (progress.Going p line) es = HasCome g trees (open_position p) line es
-IsKnown g trees (progress.Failed line) es = FailsAt g es line
+IsKnown g trees (progress.Going p line) es = HasCome g trees (open_position p.value) line es
+IsKnown g trees (progress.Failed line left) es = FailsWith g trees (left_of left) es line
 IsKnown g trees progress.Lost es = ⊤
 
 -- what is known after one more event, in the table as it is after the event
 abbrev pub AddsProgress : Reading → Event → (List Event → Type 0) → List (Simple ℕ) → Progress → Type 0
 AddsProgress g e Before new p = (es : List Event) → Before es → IsKnown g new p (es ++ e ∷ [])
+
+-- these events lead to what is left; if nothing is left after one of them, those before it lead to what was left
+abbrev pub LeadUp : Reading → List (Simple ℕ) → Progress → LevelLeft → List Event → Type 0
+LeadUp g trees (progress.Going p line) l es = LeadTo g trees l es
+LeadUp g trees (progress.Failed line left) l es = FailsWith g trees l es line
+LeadUp g trees progress.Lost l es = ⊤

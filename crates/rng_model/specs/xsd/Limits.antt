@@ -41,7 +41,7 @@ module _ {A : Type 0} (t : Ordered A) where
   abbrev pub is_within_limits : Limits A → A → Bool
   is_within_limits l a = is_above_lower l a && is_below_upper l a
 
-  -- ---- which bounds may stand together
+  -- ---- which bounds agree with each other
 
   -- the lower bound is at most the upper one (sections 4.3.7.4 to 4.3.10.4)
   abbrev pub is_inclusive_in_order : Limits A → Bool

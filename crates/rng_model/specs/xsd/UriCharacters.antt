@@ -54,7 +54,7 @@ reserved = one_in (codes ";/?:@&=+$,[]")
 
 -- What is escaped before a text is used as a URI: controls, the space, what RFC 2396 (section 2.4.3) excludes but for `#` and
 -- `%` and the brackets of RFC 2732, and all characters that are not of ASCII (XLink 1.0, section 5.4). Each becomes one or
--- more escapes, and more of them may stand wherever one may.
+-- more escapes, and more of them come wherever one may.
 abbrev pub to_escape : Regex
 to_escape =
     one_of (ranges ((0x0, 0x20) ∷ (0x22, 0x22) ∷ (0x3C, 0x3C) ∷ (0x3E, 0x3E) ∷ (0x5C, 0x5C) ∷ (0x5E, 0x5E) ∷ (0x60, 0x60) ∷

@@ -76,3 +76,6 @@ returns-clause-ended g c =
     state_left (reading_by (basis a)) (basis a).keys (EndsNow (reading_by (basis a))) (trees a) (trees d) s n c.in-Some.step c.requires
     (same_basis (basis a) (basis d) (trees d) s.table n.table told.keeps) refl c.in-Some.ensures.items
     told.outside
+
+pub returns-clause-levels : goal.returns-clause-levels
+returns-clause-levels g c = c.in_ok-state.ensures.keeps.right.levels

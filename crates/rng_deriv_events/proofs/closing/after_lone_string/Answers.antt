@@ -1,4 +1,5 @@
 use Rattle.std.proofs.Common.{ℕ, List, OnOk, Some, refl, subst, ap}
+use Rattle.std.proofs.lemmas.Result.{on_ok_weaker}
 use Rattle.rng_deriv_events.specs.views.Basis.{reading_by}
 use Rattle.rng_deriv_events.specs.views.LevelTable.{levels_in}
 use Rattle.rng_deriv_laws.specs.plain.LevelStates.{EndsWith}
@@ -6,7 +7,8 @@ use Rattle.rng_deriv_events.specs.views.OpenPositions.{held_string, open_state, 
 use Rattle.rng_deriv_events.specs.views.States.{AddsState, EndsIf, OpenState, state_of}
 use Rattle.rng_deriv_events.specs.views.Strings.{IsHeld}
 use Rattle.rng_deriv_events.specs.declared.state.State.{State}
-use Rattle.rng_deriv_events.proofs.KeptLevels.{below_grows}
+use Rattle.rng_deriv_events.specs.views.KeptLevels.{Grows}
+use Rattle.rng_deriv_events.proofs.KeptLevels.{below_grows, grows_through}
 use Rattle.rng_deriv_events.proofs.OpenStates.{ends_held_ok, kept_at, state_grows, state_inside}
 use Rattle.rng_deriv_events.proofs.closing.after_lone_string.Goals as goal
 
@@ -43,3 +45,11 @@ returns-clause-ended g c =
     (ap reading_by told.keeps.basis) (state_inside (reading_by (basis a)) (basis a).keys (trees a) s c.requires.state) told.held
     (subst (λ (o : OpenState). OnOk c.after_string.result (AddsState (λ n. (t : List ℕ) → IsHeld (reading_by (basis b)) (trees b) o.now (Some held) t
     → EndsIf (reading_by (basis b)) (EndsWith (reading_by (basis b)) t) (state_of (trees b) o) n) (trees b) (trees d) n)) grows c.after_string.ensures.ended)
+
+pub returns-clause-levels : goal.returns-clause-levels
+returns-clause-levels g c =
+    let old = levels_in c.args.state.now.table in
+    let mid = levels_in c.held_or_empty.new.table in
+    let new = levels_in c.after_string.new.state.table in
+    on_ok_weaker {P = Grows mid new} {Q = Grows old new} c.after_string.result
+    (grows_through old mid new c.in_ok-held.ensures.keeps.right.levels) c.after_string.ensures.levels

@@ -81,3 +81,6 @@ returns-clause-ended g c =
     (same_basis (basis a) (basis d) (trees d) s.table n.table told.keeps) refl c.in-Some.ensures.items
     told.longer told.there (EndsWith (reading_by (basis a))) (IsHeld (reading_by (basis a)) (trees a) (numbers_in (levels_in s.table) s.now.0)
     (Some (held_string s.table c.args.string))) (λ st t at held. told.outside st t at held)
+
+pub returns-clause-levels : goal.returns-clause-levels
+returns-clause-levels g c = c.in_ok-state.ensures.keeps.right.levels

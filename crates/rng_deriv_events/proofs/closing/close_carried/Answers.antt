@@ -102,3 +102,9 @@ returns-clause-state g c =
     state_closed (basis a) (basis d) c.args.good.now (trees a) (trees d) s n c.requires.kept told.ended.longer
     more.adds more.level.0 c.requires.steps refl level c.in-Some.ensures.items
     (subst (AddsEnded (reading_by (basis a)) c.args.good.now level.around (trees a) (trees d) level.links.items) (sym more.level.1) ended)
+
+pub returns-in_default-clause-levels : goal.returns-in_default-clause-levels
+returns-in_default-clause-levels g c = c.in_ok-state.ensures.adds.levels
+
+pub returns-clause-levels : goal.returns-clause-levels
+returns-clause-levels g c = c.in_ok-state-2.ensures.adds.levels

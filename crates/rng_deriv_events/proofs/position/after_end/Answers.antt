@@ -1,8 +1,9 @@
-use Rattle.std.proofs.Common.{refl, true, subst, sym, List, ℕ, ◌∙◌}
+use Rattle.std.proofs.Common.{refl, true, subst, sym, List, ℕ, ◌∙◌, OnOk}
 use Rattle.std.proofs.lemmas.Result.{on_ok_weaker}
 use Rattle.rng_model.specs.documents.PyxTrees.{an_end}
 use Rattle.rng_deriv_laws.specs.plain.LevelStates.{EndsNow, EndsWith}
 use Rattle.rng_deriv_events.specs.views.Basis.{Keeps, reading_by}
+use Rattle.rng_deriv_events.specs.views.KeptLevels.{Grows}
 use Rattle.rng_deriv_events.specs.views.LevelTable.{levels_in, numbers_in}
 use Rattle.rng_deriv_events.specs.views.Positions.{AddsStep}
 use Rattle.rng_deriv_events.specs.declared.position.Position.{Position}
@@ -70,3 +71,11 @@ returns-clause-step g c =
     → EndsIf reading (EndsWith reading s) (state_of old (open_state p.state)) n)
     old new (open_state r.state)) c.take-string.ensures.value c.in_ok-after_lone_string.ensures.ended)
     c.if-position.false refl (held_none r.state.table r.held c.take-string.ensures.after)
+
+pub returns-then-position-clause-levels : goal.returns-then-position-clause-levels
+returns-then-position-clause-levels g c =
+    subst (λ t. OnOk c.after_elements.result (Grows (levels_in t) (levels_in c.after_elements.new.state.table))) c.settle.ensures.table
+    c.after_elements.ensures.levels
+
+pub returns-clause-levels : goal.returns-clause-levels
+returns-clause-levels g c = c.in_ok-after_lone_string.ensures.levels

@@ -1,7 +1,9 @@
-use Rattle.std.proofs.Common.{refl, false, map}
+use Rattle.std.proofs.Common.{refl, false, map, subst}
 use Rattle.rng_model.specs.documents.EventViews.{attribute_of}
 use Rattle.rng_model.specs.names.NameViews.{name_of}
 use Rattle.rng_deriv_events.specs.views.Basis.{reading_by}
+use Rattle.rng_deriv_events.specs.views.KeptLevels.{Grows}
+use Rattle.rng_deriv_events.specs.views.LevelTable.{levels_in}
 use Rattle.rng_deriv_events.specs.views.OpenPositions.{open_position, open_state}
 use Rattle.rng_deriv_events.specs.declared.position.Position.{Position}
 use Rattle.rng_deriv_events.proofs.OpenStates.{held_none, kept_no_string}
@@ -33,3 +35,6 @@ returns-clause-step g c =
     starts_step reading (name_of c.args.name.now) (map attribute_of c.args.attrs.now) old (trees c.enter.new.derivatives) (open_position c.args.position.now)
     (open_state settled.state) (open_position r) (λ m of. c.settle.ensures.settles reading old m of)
     c.in_ok-enter.ensures.state refl (held_none r.state.table r.held c.settle.ensures.held)
+
+pub returns-clause-levels : goal.returns-clause-levels
+returns-clause-levels g c = subst (λ t. Grows (levels_in t) (levels_in c.enter.new.state.table)) c.settle.ensures.table c.in_ok-enter.ensures.levels

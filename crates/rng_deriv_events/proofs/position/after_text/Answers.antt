@@ -47,3 +47,6 @@ returns-clause-step g c =
     refl refl refl in
     string_step (reading_by (basis a)) c.args.text.now (trees a) (trees d) (open_position p) (held_string n.table c.in_ok-held.held) (open_position r)
     (position_inside (reading_by (basis a)) (basis a).keys (trees a) p c.requires) told.held same refl refl
+
+pub returns-clause-levels : goal.returns-clause-levels
+returns-clause-levels g c = c.in_ok-held.ensures.keeps.right.levels

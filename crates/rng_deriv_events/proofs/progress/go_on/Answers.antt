@@ -1,26 +1,53 @@
-use Rattle.std.proofs.Common.{true, false, ◌++◌, ◌∷◌, [], ◌∙◌}
+use Rattle.std.proofs.Common.{true, false, ◌++◌, ◌∷◌, [], ◌∙◌, subst, sym}
 use Rattle.rng_model.specs.documents.EventViews.{event_of}
 use Rattle.rng_deriv_events.specs.views.Basis.{reading_by}
 use Rattle.rng_deriv_events.specs.views.LevelTable.{levels_in}
-use Rattle.rng_deriv_events.specs.views.OpenPositions.{open_position}
+use Rattle.rng_deriv_events.specs.views.LevelsLeft.{left_of}
+use Rattle.rng_deriv_events.specs.views.OpenPositions.{IsPositionKept, open_position}
+use Rattle.rng_deriv_events.specs.views.Positions.{HasCome}
+use Rattle.rng_deriv_events.specs.declared.position.Position.{Position}
 use Rattle.rng_deriv_events.proofs.KeptLevels.{dead_is}
 use Rattle.rng_deriv_events.proofs.KnownDocuments.{comes_on, fails}
 use Rattle.rng_deriv_events.proofs.LevelRenewal.{come_renewed}
+use Rattle.rng_deriv_events.proofs.MarkedLevels.{left_inside, left_leads}
 use Rattle.rng_deriv_events.proofs.progress.go_on.Goals as goal
 
 pub level-requires : goal.level-requires
 level-requires g c = c.in_ok-step.ensures.keeps.right.state.now
 
+pub returns-then-level-clause-keeps : goal.returns-then-level-clause-keeps
+returns-then-level-clause-keeps g c =
+    let trees = g.D.Derivatives.trees in
+    let basis = g.D.Derivatives.basis c.args.derivatives.now in
+    let told = c.in_ok-step.ensures in
+    let old = trees c.args.derivatives.now in
+    let p = c.deref_mut-position.result.now in
+    let kept = subst (IsPositionKept (reading_by basis) basis.keys old) (sym c.deref_mut-position.ensures.value) c.requires in
+    record {
+      basis = told.keeps.basis;
+      right = left_inside (reading_by basis) basis.keys old (trees c.step.new.derivatives) p (levels_in c.step.new.position.state.table) c.of-mark.result
+          c.in_ok-left.field-0 kept told.step.longer told.levels c.of-mark.ensures.now c.of-mark.ensures.left c.in_ok-left.ensures;
+    }
+
 pub returns-then-level-clause-progress : goal.returns-then-level-clause-progress
 returns-then-level-clause-progress g c =
     let trees = g.D.Derivatives.trees in
-    let reading = reading_by (g.D.Derivatives.basis c.args.derivatives.now) in
+    let basis = g.D.Derivatives.basis c.args.derivatives.now in
+    let reading = reading_by basis in
+    let old = trees c.args.derivatives.now in
     let new = trees c.step.new.derivatives in
-    let p = c.step.new.position in
-    let all = dead_is new (levels_in p.state.table) p.state.now.0 c.level.result.now true c.in_ok-step.ensures.keeps.right.state.kept.levels c.level.ensures
+    let told = c.in_ok-step.ensures in
+    let n = c.step.new.position in
+    let p = c.deref_mut-position.result.now in
+    let same = sym c.deref_mut-position.ensures.value in
+    let all = dead_is new (levels_in n.state.table) n.state.now.0 c.level.result.now true told.keeps.right.state.kept.levels c.level.ensures
     c.if-level.true in
-    λ es come. fails reading (trees c.args.derivatives.now) new (open_position c.args.position.now) (open_position p) (event_of c.args.event)
-    c.in_ok-step.ensures.step come.0 es come.1 all
+    let kept = subst (IsPositionKept reading basis.keys old) same c.requires in
+    λ es come.
+    let here = subst (λ (p : Position). HasCome reading old (open_position p) come.0 es) same come.1 in
+    fails reading old new (open_position p) (open_position n) (event_of c.args.event) told.step come.0 es here (left_of c.in_ok-left.field-0)
+    (left_leads reading basis.keys old new p (levels_in n.state.table) c.of-mark.result c.in_ok-left.field-0 kept told.step.longer told.levels
+    c.of-mark.ensures.now c.of-mark.ensures.left c.in_ok-left.ensures come.0 es here) all
 
 pub renew-requires : goal.renew-requires
 renew-requires g c = c.in_ok-step.ensures.keeps.right
@@ -39,7 +66,8 @@ returns-clause-progress g c =
     let p = c.step.new.position in
     let some = dead_is mid (levels_in p.state.table) p.state.now.0 c.level.result.now false c.in_ok-step.ensures.keeps.right.state.kept.levels c.level.ensures
     c.if-level.false in
+    let old = trees c.args.derivatives.now in
     λ es come. come_renewed reading mid new (open_position p) (open_position c.renew.new.position) event.line (es ++ event ∷ [])
     c.in_ok-renew.ensures.renewed
-    (comes_on reading (trees c.args.derivatives.now) mid (open_position c.args.position.now) (open_position p) event c.in_ok-step.ensures.step come.0 es come.1
-    some)
+    (comes_on reading old mid (open_position c.deref_mut-position.result.now) (open_position p) event c.in_ok-step.ensures.step come.0 es
+    (subst (λ (p : Position). HasCome reading old (open_position p) come.0 es) (sym c.deref_mut-position.ensures.value) come.1) some)

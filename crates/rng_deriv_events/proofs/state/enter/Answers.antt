@@ -8,6 +8,7 @@ use Rattle.rng_deriv_events.specs.views.LevelTable.{levels_in, numbers_in, steps
 use Rattle.rng_deriv_events.specs.declared.level_table.step.Step.{Step}
 use Rattle.rng_deriv_events.specs.views.KeptLevels.{AddsAfter}
 use Rattle.rng_deriv_events.specs.declared.state.State.{State}
+use Rattle.rng_deriv_events.proofs.KeptLevels.{grows_through}
 use Rattle.rng_deriv_events.proofs.OpenStates.{child_there, keeps_basis, kept_entered, same_basis, state_entered}
 use Rattle.rng_deriv_events.proofs.state.enter.Goals as goal
 
@@ -73,3 +74,8 @@ returns-clause-state g c =
     c.requires told.longer (same_basis (basis a) (basis b) (trees b) s.table c.step_for.new.table told.keeps) found
     (same_basis (basis a) (basis d) (trees d) c.step_for.new.table n.table (record { basis = same; right = more.keeps.right })) after refl
     c.in_ok-push.ensures.items
+
+pub returns-clause-levels : goal.returns-clause-levels
+returns-clause-levels g c =
+    grows_through (levels_in c.args.state.now.table) (levels_in c.step_for.new.table) (levels_in c.level_in_tag.new.table)
+    c.in_ok-step.ensures.keeps.right.levels c.in_ok-state.ensures.keeps.right.levels

@@ -1,5 +1,6 @@
 use Rattle.std.proofs.Common.{ap}
 use Rattle.rng_deriv.specs.views.Serving.{seen_of}
+use Rattle.rng_deriv.proofs.BoxedLearning.{opened}
 use Rattle.rng_deriv.proofs.KeptStarts.{serves_longer}
 use Rattle.rng_deriv.proofs.ServedTables.{below_there, seen_there, text_added, there_served}
 use Rattle.rng_deriv.proofs.grammar_derivatives.GrammarDerivativesDerivatives.after_text.Goals as goal
@@ -7,19 +8,28 @@ use Rattle.rng_deriv.proofs.grammar_derivatives.GrammarDerivativesDerivatives.af
 pub after_text-requires-clause-inside : goal.after_text-requires-clause-inside
 after_text-requires-clause-inside c =
     let d = c.self.inside in
-    below_there d.grammar.now d.learned.lost d.learned.table (seen_of c.args.self.now) c.if-self.false (ap seen_of c.self.view_is) c.args.pattern c.requires
+    let t = d.grammar.now in
+    let l = c.deref_mut-learned.result.now in
+    let o = opened t (seen_of c.args.self.now) d.learned.value l c.deref_mut-learned.ensures.value c.self.invariant (ap seen_of c.self.view_is) in
+    below_there t l.lost l.table (seen_of c.args.self.now) c.if-learned.false o.seen_is c.args.pattern c.requires
 
 pub invariant_of-self-2 : goal.invariant_of-self-2
 invariant_of-self-2 c =
     let d = c.self.inside in
-    serves_longer d.grammar.now d.learned.table c.after_text.new.table d.learned.keys c.in_ok-number.ensures.longer d.learned.numbers.items d.learned.known
-    (there_served d.grammar.now d.learned.keys d.learned.lost d.learned.table d.learned.numbers.items d.learned.known c.if-self.false c.self.invariant)
+    let t = d.grammar.now in
+    let l = c.deref_mut-learned.result.now in
+    let o = opened t (seen_of c.args.self.now) d.learned.value l c.deref_mut-learned.ensures.value c.self.invariant (ap seen_of c.self.view_is) in
+    serves_longer t l.table c.after_text.new.table l.keys c.in_ok-number.ensures.longer l.numbers.items l.known
+    (there_served t l.keys l.lost l.table l.numbers.items l.known c.if-learned.false o.serves)
     c.after_text.new.known c.in_ok-number.ensures.known
 
 pub returns-clause-after : goal.returns-clause-after
 returns-clause-after c =
-    let t = c.self.inside.grammar.now in
-    let old = c.self.inside.learned.table in
+    let d = c.self.inside in
+    let t = d.grammar.now in
+    let l = c.deref_mut-learned.result.now in
+    let o = opened t (seen_of c.args.self.now) d.learned.value l c.deref_mut-learned.ensures.value c.self.invariant (ap seen_of c.self.view_is) in
+    let old = l.table in
     let now = c.in_ok-number.ensures in
-    text_added t old c.after_text.new.table (seen_of c.args.self.now) (seen_there t c.self.inside.learned.lost old (seen_of c.args.self.now) c.if-self.false (ap seen_of c.self.view_is))
+    text_added t old c.after_text.new.table (seen_of c.args.self.now) (seen_there t l.lost old (seen_of c.args.self.now) c.if-learned.false o.seen_is)
     now.longer c.args.text.now c.args.pattern c.in_ok-number.number now.inside now.after now.kept c.requires

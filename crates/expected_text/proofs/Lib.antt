@@ -1,0 +1,2 @@
+mod FieldChars
+mod ClassParts

@@ -1,0 +1,2 @@
+pub mod ExpectationText
+pub mod plain

@@ -1,0 +1,3 @@
+-- Plain functions, for proofs.
+pub mod Fields
+pub mod Parts

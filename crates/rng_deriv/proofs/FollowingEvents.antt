@@ -1,0 +1,88 @@
+-- What may come next, by what is left.
+use Rattle.std.proofs.Common.{◌≡◌, ℕ, ◌<◌, List, [], ◌∷◌, All, length, map, refl, sym, ap, subst, Bool, true, false, Some, None}
+use Rattle.std.proofs.lemmas.List.Elements.{All-head, All-nil}
+use Rattle.rng_model.specs.simple.Table.{Table, grammar_of}
+use Rattle.rng_model.specs.simple.Tree.{Simple}
+use Rattle.rng_model.specs.documents.PyxTrees.{Event}
+use Rattle.rng_model.specs.matching.GrammarMatching.{Reading, reading_of}
+use Rattle.rng_deriv_table.specs.views.Node.{Node}
+use Rattle.rng_deriv_table.specs.views.Trees.{trees, tree_of}
+use Rattle.rng_deriv_table.specs.declared.pattern.PatternNumber.{PatternNumber}
+use Rattle.rng_deriv_events.specs.views.Innermost.{innermost_of}
+use Rattle.rng_deriv_events.specs.views.LevelsLeft.{LevelLeft}
+use Rattle.rng_deriv_events.specs.views.Numbers as numbers
+use Rattle.rng_deriv_events.specs.views.Numbers.{IsInside}
+use Rattle.rng_deriv_events.specs.views.Positions.{IsLost, LeadTo, LeadUp}
+use Rattle.rng_deriv_events.specs.declared.progress.Progress.{Progress}
+use Rattle.rng_deriv_events.specs.declared.progress.Progress.TheVariants as progress
+use Rattle.rng_deriv_events.proofs.MarkedLevels.{innermost_inside, innermost_leads}
+use Rattle.rng_expected.specs.Expectations.{IsExpected, Next}
+use Rattle.rng_deriv.specs.views.Followers.{MayFollow, MayFollowAll}
+use Rattle.rng_deriv.specs.views.Matchers.{IsStateBy, Knows, matching_in}
+use Rattle.rng_deriv.specs.views.Serving.{nodes_of, nodes_unless}
+use Rattle.rng_deriv.specs.views.Alternatives.{unless_lost}
+use Rattle.rng_deriv.specs.declared.matcher_state.MatcherState.{MatcherState}
+use Rattle.rng_deriv.proofs.ServedTables.{all_below_there, none_there}
+
+-- ---- numbers of the table, or none where nothing is known of it
+
+-- no number is in an empty table
+none_inside : (t : Table) (lost : Bool) (ns : List Node) (now : List PatternNumber) → lost ≡ true → All (IsInside (trees t (nodes_unless lost ns))) now → now ≡ []
+none_inside t lost ns [] gone all = refl
+none_inside t lost ns (n ∷ now) gone all =
+    absurd (none_there t lost ns (t, nodes_unless lost ns) n gone refl (All-head (IsInside (trees t (nodes_unless lost ns))) n now all))
+
+pub left_below : (t : Table) (lost : Bool) (ns : List Node) (now : List PatternNumber) → All (IsInside (trees t (nodes_unless lost ns))) now
+    → All (λ n. n.0 < length ns) (unless_lost lost now)
+left_below t true ns now all = All-nil (λ (n : PatternNumber). n.0 < length ns)
+left_below t false ns now all = all_below_there t false ns (t, ns) refl refl now all
+
+pub left_trees : (t : Table) (lost : Bool) (ns : List Node) (now : List PatternNumber) → All (IsInside (trees t (nodes_unless lost ns))) now
+    → map (λ (n : PatternNumber). tree_of t ns n.0) (unless_lost lost now) ≡ map (numbers.tree_of (trees t (nodes_unless lost ns))) now
+left_trees t true ns now all = ap (map (numbers.tree_of (trees t []))) (sym (none_inside t true ns now refl all))
+left_trees t false ns now all = refl
+
+-- ---- what may come next
+
+module _ (g : Reading) (trees : List (Simple ℕ)) (l : LevelLeft) (next : Next)
+    (expected : IsExpected g.grammar (map (numbers.tree_of trees) l.now) next) where
+  follow_all : (es : List Event) → LeadTo g trees l es → MayFollowAll g next es
+  follow_all es lead = record {
+    matcher = lead.matcher;
+    settled = lead.settled;
+    stands = lead.stands;
+    settles = lead.settles;
+    expected = subst (λ now. IsExpected g.grammar now next) (sym lead.now) expected;
+  }
+
+  follow : (p : Progress) (es : List Event) → LeadUp g trees p l es → MayFollow g p next es
+  follow (progress.Going p line) es lead = follow_all es lead
+  follow (progress.Failed line left) es w = (w.fails, follow_all w.fails.before w.left)
+  follow progress.Lost es lead = tt
+
+module _ (t : Table) (s : MatcherState) (state : IsStateBy t s) (l : LevelLeft) (is : innermost_of s.progress ≡ Some l) where
+  inside : All (IsInside (trees t (nodes_of s.learned.value))) l.now
+  inside = innermost_inside (reading_of t) s.learned.value.keys (trees t (nodes_of s.learned.value)) s.progress l is state.inside
+
+  pub alternatives_there : All (λ n. n.0 < length s.learned.value.table) (unless_lost s.learned.value.lost l.now)
+  alternatives_there = left_below t s.learned.value.lost s.learned.value.table l.now inside
+
+  pub may_follow : (next : Next)
+      → IsExpected (grammar_of t) (map (λ (n : PatternNumber). tree_of t s.learned.value.table n.0) (unless_lost s.learned.value.lost l.now)) next
+      → (es : List Event) → Knows (matching_in t s) es → MayFollow (reading_of t) s.progress next es
+  may_follow next expected es known =
+      let at = trees t (nodes_of s.learned.value) in
+      follow (reading_of t) at l next
+      (subst (λ now. IsExpected (grammar_of t) now next) (left_trees t s.learned.value.lost s.learned.value.table l.now inside) expected) s.progress es
+      (innermost_leads (reading_of t) at s.progress l es is known)
+
+-- something is left unless a call ran out of memory
+pub none_left : (p : Progress) → innermost_of p ≡ None → IsLost p
+none_left (progress.Going p line) none = absurd (cc)
+none_left (progress.Failed line left) none = absurd (cc)
+none_left progress.Lost none = refl
+
+pub some_left : (p : Progress) (l : LevelLeft) → innermost_of p ≡ Some l → IsLost p → ⊥
+some_left (progress.Going p line) l some lost = absurd (cc)
+some_left (progress.Failed line left) l some lost = absurd (cc)
+some_left progress.Lost l some lost = absurd (cc)

@@ -1,0 +1,41 @@
+-- What is left of the innermost open element.
+use Rattle.std.specs.Prelude.{ℕ, ◌==◌, ◌&&◌, List, length, Bool, not, Option, Some, None, is_some, if◌then◌else◌}
+use Rattle.rng_deriv_table.specs.declared.pattern.PatternNumber.{PatternNumber}
+use Rattle.rng_deriv_events.specs.views.LevelTable.{levels_in, numbers_in}
+use Rattle.rng_deriv_events.specs.declared.held.Held.{Held}
+use Rattle.rng_deriv_events.specs.declared.left.Left.{Left}
+use Rattle.rng_deriv_events.specs.declared.left.Mark.{Mark}
+use Rattle.rng_deriv_events.specs.declared.level_table.level.Level.{Level}
+use Rattle.rng_deriv_events.specs.declared.level_table.level.LevelNumber.{LevelNumber}
+use Rattle.rng_deriv_events.specs.declared.position.Position.{Position}
+use Rattle.rng_deriv_events.specs.declared.state.State.{State}
+
+-- the alternatives for what remains of the innermost open element, given that no further string comes, whether it has a
+-- child element, whether a string has come since the last tag, and whether an element is open at all
+pub record LevelLeft : Type 0 where
+  pub now : List PatternNumber
+  pub has_begun : Bool
+  pub has_string : Bool
+  pub is_open : Bool
+
+abbrev pub level_left : List PatternNumber → Bool → Bool → Bool → LevelLeft
+level_left now has_begun has_string is_open = record { now = now; has_begun = has_begun; has_string = has_string; is_open = is_open }
+
+-- an element is open
+abbrev pub is_within : State → Bool
+is_within s = not ((length s.carried.items == 0) && (length s.steps.items == 0))
+
+-- the level behind the held string, given that an element is beside it: a blank string counts as nothing there (6.2.7)
+abbrev pub settled_level : LevelNumber → Option Held → LevelNumber
+settled_level now None = now
+settled_level now (Some h) = if h.blank then now else h.after
+
+abbrev pub level_in : Position → LevelLeft
+level_in p = level_left (numbers_in (levels_in p.state.table) (settled_level p.state.now p.held).0) p.has_begun (is_some p.held) (is_within p.state)
+
+-- what is left at a mark, by the levels of a table
+abbrev pub marked : List Level → Mark → LevelLeft
+marked levels m = level_left (numbers_in levels m.now.0) m.has_begun m.has_string m.is_open
+
+abbrev pub left_of : Left → LevelLeft
+left_of l = level_left l.alternatives.items l.has_begun l.has_string l.is_open

@@ -1,0 +1,196 @@
+#include "declared.h"
+
+#include "library_calls.h"
+#include "schema_ids.h"
+#include "xml_names.h"
+
+#include <stdlib.h>
+
+enum { MOST_DEPTH = 5000, SEARCH_STEPS = 5000000 };
+
+bool declared_open(struct declared *declared, rncv_schema *schema) {
+    size_t length = 0;
+    if (declared->is_tried) {
+        return declared->is_there;
+    }
+    declared->is_tried = true;
+    if (schema_form(schema, &declared->text, &length) != RNCV_DONE) {
+        return false;
+    }
+    declared->is_there = form_open(&declared->form, (struct span){(const char *)declared->text, length}, false);
+    if (!declared->is_there) {
+        form_close(&declared->form);
+    }
+    return declared->is_there;
+}
+
+void declared_close(struct declared *declared) {
+    if (declared->is_there) {
+        form_close(&declared->form);
+    }
+    free(declared->text);
+}
+
+/* Begins a search, which has its own steps. */
+static void begin_search(struct declared *declared) {
+    declared->form.steps = SEARCH_STEPS;
+    declared->form.is_strange = false;
+    declared->time++;
+}
+
+/* The patterns that are still to be looked at. */
+struct waiting {
+    uint32_t *numbers;
+    uint32_t count, capacity;
+    bool failed;
+};
+
+/* Adds a pattern that was not looked at in this search. */
+static void await(struct declared *declared, struct waiting *waiting, struct part part) {
+    struct form_line *line = part.kind == PART_PATTERN ? &declared->form.patterns[part.number] : NULL;
+    if (line == NULL || line->seen / 2 == declared->time || waiting->failed) {
+        return;
+    }
+    line->seen = 2 * declared->time;
+    waiting->failed = !items_grow((void **)&waiting->numbers, waiting->count, &waiting->capacity, sizeof *waiting->numbers);
+    if (!waiting->failed) {
+        waiting->numbers[waiting->count++] = part.number;
+    }
+}
+
+/* Adds an attribute to a list, or awaits what a pattern consists of. */
+static void look_at(struct declared *declared, uint32_t number, struct waiting *waiting, struct declared_list *list) {
+    const struct form_line line = declared->form.patterns[number];
+    if (line.kind == LINE_JOINED || line.kind == LINE_REPETITION) {
+        await(declared, waiting, line.one);
+        await(declared, waiting, line.other);
+    } else if (line.kind == LINE_ATTRIBUTE) {
+        waiting->failed |= !items_grow((void **)&list->lines, list->count, &list->capacity, sizeof *list->lines);
+        if (!waiting->failed) {
+            list->lines[list->count++] = number;
+        }
+    }
+}
+
+void declared_find(struct declared *declared, const struct event_name *element, struct declared_list *list) {
+    struct waiting waiting = {NULL, 0, 0, false};
+    memset(list, 0, sizeof *list);
+    begin_search(declared);
+    for (uint32_t at = 0; at < declared->form.element_count; at++) {
+        if (form_class_has(&declared->form, declared->form.elements[at].class, element->uri, element->local)) {
+            list->is_known = true;
+            await(declared, &waiting, declared->form.elements[at].one);
+        }
+    }
+    while (waiting.count > 0 && !waiting.failed && form_step(&declared->form)) {
+        look_at(declared, waiting.numbers[--waiting.count], &waiting, list);
+    }
+    list->is_known = list->is_known && !waiting.failed && !declared->form.is_strange;
+    free(waiting.numbers);
+}
+
+void declared_list_free(struct declared_list *list) {
+    free(list->lines);
+}
+
+bool declared_has(struct declared *declared, uint32_t line, const struct event_name *name) {
+    begin_search(declared);
+    return form_class_has(&declared->form, declared->form.patterns[line].class, name->uri, name->local);
+}
+
+bool declared_name(const struct declared *declared, uint32_t line, struct span *uri, struct span *local) {
+    const struct form_class *class = &declared->form.classes[declared->form.patterns[line].class];
+    *uri = class->uri;
+    *local = class->local;
+    return class->kind == CLASS_ONE_NAME;
+}
+
+/* Whether whatever matches the part has an attribute of the line's name. */
+static bool part_requires(struct declared *declared, struct part part, uint32_t wanted, int depth) {
+    if (part.kind != PART_PATTERN || depth > MOST_DEPTH || !form_step(&declared->form)) {
+        return false;
+    }
+    struct form_line *line = &declared->form.patterns[part.number];
+    if (line->seen / 2 == declared->time) {
+        return line->seen % 2 != 0;
+    }
+    bool is_required = false;
+    struct span uri;
+    struct span local;
+    if (line->kind == LINE_ATTRIBUTE) {
+        struct span wanted_uri;
+        struct span wanted_local;
+        declared_name(declared, wanted, &wanted_uri, &wanted_local);
+        is_required = declared_name(declared, part.number, &uri, &local) && span_equal(uri, wanted_uri) && span_equal(local, wanted_local);
+    } else if (line->kind == LINE_REPETITION) {
+        is_required = part_requires(declared, line->one, wanted, depth + 1);
+    } else if (line->kind == LINE_JOINED) {
+        bool is_first = part_requires(declared, line->one, wanted, depth + 1);
+        bool needs_other = line->sign == '|' ? is_first : !is_first;
+        is_required = needs_other ? part_requires(declared, line->other, wanted, depth + 1) : is_first;
+    }
+    line->seen = 2 * declared->time + is_required;
+    return is_required;
+}
+
+bool declared_requires(struct declared *declared, const struct event_name *element, uint32_t line) {
+    bool is_required = true;
+    begin_search(declared);
+    for (uint32_t at = 0; at < declared->form.element_count && is_required; at++) {
+        const struct form_line *here = &declared->form.elements[at];
+        is_required = !form_class_has(&declared->form, here->class, element->uri, element->local) || part_requires(declared, here->one, line, 0);
+    }
+    return is_required && !declared->form.is_strange;
+}
+
+static void add_text_of(struct bytes *schema, const struct declared *declared, const struct form_line *line) {
+    bytes_add(schema, declared->text + line->from, line->to - line->from);
+}
+
+/* Writes a schema of one element, whose content is the value of an attribute. False: memory ran out. */
+static bool write_schema(struct declared *declared, uint32_t line, struct bytes *schema) {
+    struct waiting waiting = {NULL, 0, 0, false};
+    begin_search(declared);
+    bytes_add_text(schema, "start = zz\nzz = element zz { ");
+    add_text_of(schema, declared, &declared->form.patterns[line]);
+    bytes_add_text(schema, " }\n");
+    await(declared, &waiting, declared->form.patterns[line].one);
+    while (waiting.count > 0 && !waiting.failed) {
+        uint32_t number = waiting.numbers[--waiting.count];
+        const struct form_line *here = &declared->form.patterns[number];
+        bytes_format(schema, "p%u = ", (unsigned)number);
+        if (here->kind == LINE_ATTRIBUTE) {
+            waiting.failed = true; /* there is none in a value */
+        }
+        add_text_of(schema, declared, here);
+        bytes_add_byte(schema, '\n');
+        await(declared, &waiting, here->one);
+        await(declared, &waiting, here->other);
+    }
+    free(waiting.numbers);
+    return !waiting.failed && !schema->failed;
+}
+
+/* Judges the value as the content of the one element. */
+static bool judge_value(rncv_schema *schema, struct span value, struct bytes *written, bool *fits) {
+    static const uint8_t name[] = "zz";
+    uint64_t since = 0;
+    bool is_good = rncv_events_begin(schema) == RNCV_DONE && rncv_events_start(schema, 1, NULL, 0, name, 2, NULL, 0) == RNCV_DONE &&
+                   expected_get(schema, written) && library_text(schema, value) == RNCV_DONE && rncv_events_end(schema, 2) == RNCV_DONE &&
+                   rncv_events_invalid_since(schema, &since) == RNCV_DONE;
+    *fits = since == 0;
+    return is_good;
+}
+
+bool declared_value(struct declared *declared, uint32_t line, uint32_t datatypes, struct span value, struct bytes *written, bool *fits) {
+    struct bytes text = NO_BYTES;
+    rncv_schema schema = RNCV_NOTHING;
+    rncv_fault fault;
+    bool is_good = write_schema(declared, line, &text);
+    rncv_file file = {(const uint8_t *)"", 0, (const uint8_t *)text.data, text.length};
+    is_good = is_good && rncv_compile_with(&file, 1, datatypes, &schema, &fault) == RNCV_DONE;
+    is_good = is_good && judge_value(&schema, value, written, fits);
+    rncv_schema_free(&schema);
+    bytes_free(&text);
+    return is_good;
+}

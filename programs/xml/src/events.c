@@ -1,0 +1,647 @@
+#include "events.h"
+
+#include "declarations.h"
+#include "known_names.h"
+#include "parser_memory.h"
+#include "parser_words.h"
+#include "tag_names.h"
+
+#include <libxml/SAX2.h>
+#include <libxml/parserInternals.h>
+#include <libxml/uri.h>
+#include <stdlib.h>
+#include <string.h>
+
+enum {
+    LONG_TEXT = 65536,     /* a longer text is looked at for the memory that it takes */
+    SEARCHED = 1000000000, /* namespaces that are looked at in any document */
+    MOST_SEARCHED = 64,    /* and for each of its bytes, above that */
+    COST_OF_DEFAULTS = 16  /* libxml2 compares each pair of attributes by default: so many pairs cost a byte */
+};
+
+struct reader {
+    struct feed feed;
+    struct declarations declarations;
+    const struct event_sink *sink;
+    struct fault *fault;
+    struct event_attribute *attributes; /* room for those of a tag */
+    size_t attribute_capacity;
+    struct event_declaration *declared; /* room for its declarations */
+    size_t declared_capacity;
+    struct known_names names;
+    bool has_bad_name;   /* the tag that is being read has a name that is no QName */
+    bool has_double;     /* two of its attributes have one name */
+    bool has_undeclared; /* a name of it has a prefix that is not declared */
+    struct position tag; /* of the last start tag */
+    bool is_empty;       /* its end is in it */
+    size_t depth;
+    uint64_t searched; /* how many open namespaces were looked at for names */
+    struct parser_memory memory;
+};
+
+/* The reader of this thread's document. libxml2 reports some errors without it. */
+static _Thread_local struct reader *current = NULL;
+
+static void out_of_memory(struct reader *reader) {
+    fault_set(reader->fault, FAULT_MEMORY, (struct place){0, 0}, "out of memory");
+}
+
+static bool is_good(const struct reader *reader) {
+    return reader->fault->kind == FAULT_NONE;
+}
+
+/* Notes whether the receiver wants more. */
+static void go_on(struct reader *reader, bool wants_more) {
+    if (!wants_more) {
+        fault_set(reader->fault, FAULT_STOPPED, (struct place){0, 0}, "stopped");
+    }
+}
+
+static void flush(void *context) {
+    const struct reader *reader = context;
+    if (is_good(reader) && reader->sink->flush != NULL) {
+        reader->sink->flush(reader->sink->context);
+    }
+}
+
+/* Does what is due before more of the document is read. */
+static void before_read(void *context) {
+    struct reader *reader = context;
+    flush(reader);
+    if (reader->sink->held != NULL) {
+        reader->feed.kept = reader->sink->held(reader->sink->context);
+    }
+}
+
+static struct span span_of(const xmlChar *text) {
+    return text == NULL ? (struct span){"", 0} : (struct span){(const char *)text, strlen((const char *)text)};
+}
+
+/* Whether libxml2 reads the document itself, and not the text of an entity. */
+static bool is_in_document(const struct reader *reader) {
+    return reader->feed.parser->depth == 0 && reader->feed.parser->inputNr == 1 && !reader->feed.is_away;
+}
+
+/* How many blanks begin the text. */
+static size_t blanks_of(const char *text, size_t length) {
+    size_t at = 0;
+    while (at < length && (text[at] == ' ' || text[at] == '\t' || text[at] == '\n' || text[at] == '\r')) {
+        at++;
+    }
+    return at;
+}
+
+/* Finds the position of a piece of text, and moves on behind it. Where the document has the piece as it is, its blanks are there too. */
+static struct position text_position(struct reader *reader, const xmlChar *text, size_t length) {
+    struct feed *feed = &reader->feed;
+    bool is_in = is_in_document(reader);
+    uint64_t begin;
+    if (is_in && feed_offset_of(feed, text, &begin)) {
+        feed_move(feed, begin + length);
+        return (struct position){feed, begin, NULL, length};
+    }
+    uint64_t end = feed_offset(feed);
+    begin = feed_settle(feed, end);
+    bool is_raw = is_in && feed_byte(feed, begin) != '&';
+    if (is_in) {
+        begin += feed_byte(feed, begin) == '<' ? strlen("<![CDATA[") : 0;
+        feed_move(feed, end);
+    }
+    return (struct position){feed, begin, NULL, is_raw ? length : 0};
+}
+
+static void take_text(void *context, const xmlChar *text, int size) {
+    struct reader *reader = context;
+    size_t length = size > 0 ? (size_t)size : 0;
+    if (!is_good(reader)) {
+        return;
+    }
+    struct text_event event = {text_position(reader, text, length), {(const char *)text, length}};
+    if (length == 0) {
+        return;
+    }
+    reader->feed.unfinished += length;
+    if (reader->feed.unfinished > LONG_TEXT && feed_is_over(&reader->feed)) {
+        feed_check_memory(&reader->feed, place_of(&event.position));
+        return;
+    }
+    go_on(reader, reader->sink->text(reader->sink->context, &event));
+}
+
+/* Sets the position of a start tag, and moves on behind it. */
+static void set_tag(struct reader *reader) {
+    struct feed *feed = &reader->feed;
+    uint64_t end = feed_offset(feed);
+    if (!is_in_document(reader)) {
+        reader->tag = (struct position){feed, feed_settle(feed, end), NULL, 0};
+        reader->is_empty = false;
+        return;
+    }
+    reader->tag = (struct position){feed, end, "<", 0};
+    reader->is_empty = feed_byte(feed, end) == '/';
+    feed_move(feed, end + (reader->is_empty ? 2 : 1));
+}
+
+/* Makes room for one more item of this size. False: out of memory, and there is a fault. */
+static bool has_room(struct reader *reader, void **items, size_t count, size_t *capacity, size_t size) {
+    if (count < *capacity) {
+        return true;
+    }
+    size_t wanted = *capacity == 0 ? 16 : 2 * *capacity;
+    void *longer = realloc(*items, wanted * size);
+    if (longer == NULL) {
+        out_of_memory(reader);
+        return false;
+    }
+    *items = longer;
+    *capacity = wanted;
+    return true;
+}
+
+/* Adds a declaration to those of the tag. */
+static void add_declaration(struct reader *reader, struct start_event *start, struct span prefix, struct span uri) {
+    void *list = reader->declared;
+    if (has_room(reader, &list, start->declaration_count, &reader->declared_capacity, sizeof *reader->declared)) {
+        reader->declared = list;
+        reader->declared[start->declaration_count++] = (struct event_declaration){prefix, uri};
+    }
+}
+
+static bool is_text(struct span span, const char *text, size_t length) {
+    return span.length == length && memcmp(span.data, text, length) == 0;
+}
+
+/* Whether the name as it is written, which ends in a zero, is this one. */
+static bool is_written(const struct event_name *name, const char *written) {
+    size_t prefix = name->prefix.length;
+    size_t begin = prefix == 0 ? 0 : prefix + 1;
+    size_t length = strlen(written);
+    if (length != begin + name->local.length || !is_text(name->local, written + begin, name->local.length)) {
+        return false;
+    }
+    return prefix == 0 || (is_text(name->prefix, written, prefix) && written[prefix] == ':');
+}
+
+/* Whether the tag declares the prefix itself. */
+static bool declares(const struct reader *reader, size_t count, struct span prefix) {
+    for (size_t at = 0; at < count; at++) {
+        if (is_text(prefix, reader->declared[at].prefix.data, reader->declared[at].prefix.length)) {
+            return true;
+        }
+    }
+    return false;
+}
+
+/* Adds the namespaces that the element declares by default. libxml2 leaves some of them out. */
+static void add_defaults(struct reader *reader, struct start_event *start) {
+    const struct declarations *declarations = &reader->declarations;
+    size_t own = start->declaration_count;
+    for (size_t at = 0; at < declarations->default_count && is_good(reader); at++) {
+        const struct namespace_default *found = &declarations->defaults[at];
+        const char *prefix = found->name[5] == '\0' ? "" : found->name + 6;
+        if (is_written(&start->name, found->element) && !declares(reader, own, (struct span){prefix, strlen(prefix)})) {
+            add_declaration(reader, start, (struct span){prefix, strlen(prefix)}, (struct span){found->value, strlen(found->value)});
+        }
+    }
+}
+
+static void add_declarations(struct reader *reader, struct start_event *start, int count, const xmlChar **namespaces) {
+    start->declaration_count = 0;
+    for (int at = 0; at < count && is_good(reader); at++) {
+        add_declaration(reader, start, span_of(namespaces[2 * at]), span_of(namespaces[2 * at + 1]));
+    }
+    if (reader->declarations.default_count > 0) {
+        add_defaults(reader, start);
+    }
+    start->declarations = reader->declared;
+}
+
+/* The name of an element or attribute. */
+static struct event_name name_of(struct reader *reader, const xmlChar *local, const xmlChar *prefix, const xmlChar *uri) {
+    reader->has_undeclared |= prefix != NULL && (uri == NULL || *uri == '\0');
+    return *known_name(&reader->names, reader->feed.parser->dict, local, prefix, uri);
+}
+
+static void add_attributes(struct reader *reader, struct start_event *start, int count, const xmlChar **attributes) {
+    start->attribute_count = 0;
+    for (int at = 0; at < count && is_good(reader); at++, attributes += 5) {
+        void *list = reader->attributes;
+        if (attributes[3] == NULL) {
+            out_of_memory(reader); /* for the value of a default */
+        } else if (has_room(reader, &list, start->attribute_count, &reader->attribute_capacity, sizeof *reader->attributes)) {
+            reader->attributes = list;
+            reader->attributes[start->attribute_count++] = (struct event_attribute){name_of(reader, attributes[0], attributes[1], attributes[2]),
+                                                                                    {(const char *)attributes[3], (size_t)(attributes[4] - attributes[3])}};
+        }
+    }
+    start->attributes = reader->attributes;
+}
+
+/* Finds out whether the tag breaks Namespaces in XML, if that is wanted. */
+static void check_names(struct reader *reader, const struct start_event *start) {
+    struct bytes words = NO_BYTES;
+    int clause = tag_names_fault(start, reader->has_bad_name, reader->has_double, &words);
+    if (clause != 0) {
+        const char *text = bytes_text(&words);
+        if (words.failed) {
+            out_of_memory(reader);
+        }
+        fault_set_clause(reader->fault, clause, place_of(&start->position), text);
+    }
+    bytes_free(&words);
+}
+
+/* Counts an element that is open. */
+static void count_open(struct reader *reader) {
+    size_t most = reader->sink->depth == 0 ? USUAL_DEPTH : reader->sink->depth;
+#if LIBXML_VERSION < 20911
+    most = most < USUAL_DEPTH ? most : USUAL_DEPTH; /* these call themselves for an element in an element */
+#endif
+    reader->depth++;
+    if (reader->depth > most) {
+        struct bytes count = NO_BYTES;
+        bytes_add_count(&count, most);
+        fault_set(reader->fault, FAULT_OUTSIDE, place_of(&reader->tag), "over a limit of this program: more than %s elements are open (--max-depth)",
+                  bytes_text(&count));
+        bytes_free(&count);
+    }
+}
+
+/* Counts what libxml2 takes for a tag beside its length: it looks for each name in the open namespaces, and adds the attributes that are there by default. */
+static void count_costs(struct reader *reader, int attribute_count, int default_count, const xmlChar **attributes) {
+    uint64_t names = (uint64_t)attribute_count + 1;
+    uint64_t defaults = (uint64_t)default_count;
+    reader->searched += names * (uint64_t)reader->feed.parser->nsNr / 2;
+    if (reader->searched > SEARCHED && reader->searched / MOST_SEARCHED > feed_offset(&reader->feed) + reader->declarations.loaded) {
+        fault_set(reader->fault, FAULT_OUTSIDE, place_of(&reader->tag), "over a limit of this program: too many declarations of namespaces are in scope");
+    }
+    if (default_count == 0) {
+        return;
+    }
+    uint64_t cost = defaults * defaults / COST_OF_DEFAULTS;
+    for (const xmlChar **at = attributes + 5 * (attribute_count - default_count); default_count > 0; default_count--, at += 5) {
+        cost += at[3] == NULL ? 0 : (uint64_t)(at[4] - at[3]);
+    }
+    if (!declarations_count(&reader->declarations, cost)) {
+        fault_set(reader->fault, FAULT_OUTSIDE, place_of(&reader->tag), "attributes by default of more than 100 times the document's length: outside the profile");
+    }
+}
+
+/* Hands the start to the receiver. A name that is no QName is a fault, if no other is found. */
+static void hand_start(struct reader *reader, const struct start_event *start) {
+    bool may_break = reader->has_bad_name || reader->has_double || reader->has_undeclared || start->declaration_count > 0;
+    if (reader->sink->checks_names && may_break) {
+        check_names(reader, start);
+    }
+    if (is_good(reader)) {
+        go_on(reader, reader->sink->start(reader->sink->context, start));
+    }
+    if (reader->has_bad_name) {
+        flush(reader); /* the receiver comes first: it may know that too, and say more */
+        fault_set(reader->fault, FAULT_MALFORMED, place_of(&reader->tag), "malformed XML: a name that is no QName of Namespaces in XML");
+    }
+}
+
+static void take_start(void *context, const xmlChar *local, const xmlChar *prefix, const xmlChar *uri, int namespace_count, const xmlChar **namespaces,
+                       int attribute_count, int default_count, const xmlChar **attributes) {
+    struct reader *reader = context;
+    if (!is_good(reader)) {
+        return;
+    }
+    set_tag(reader);
+    count_open(reader);
+    count_costs(reader, attribute_count, default_count, attributes);
+    reader->feed.unfinished = 0;
+    struct start_event start;
+    start.position = reader->tag;
+    start.name = name_of(reader, local, prefix, uri);
+    add_declarations(reader, &start, namespace_count, namespaces);
+    add_attributes(reader, &start, attribute_count, attributes);
+    if (is_good(reader)) {
+        hand_start(reader, &start);
+    }
+    reader->has_double = false;
+    reader->has_undeclared = false;
+}
+
+/* The position of an end tag. Of an empty element it is behind its tag. */
+static struct position end_position(struct reader *reader) {
+    struct feed *feed = &reader->feed;
+    uint64_t end = feed_offset(feed);
+    if (!is_in_document(reader)) {
+        return (struct position){feed, feed_settle(feed, end), NULL, 0};
+    }
+    feed_move(feed, end);
+    bool is_empty = reader->is_empty;
+    reader->is_empty = false;
+    return (struct position){feed, end, is_empty ? NULL : "</", 0};
+}
+
+static void take_end(void *context, const xmlChar *local, const xmlChar *prefix, const xmlChar *uri) {
+    struct reader *reader = context;
+    if (is_good(reader)) {
+        const struct event_name *name = known_name(&reader->names, reader->feed.parser->dict, local, prefix, uri);
+        struct position position = end_position(reader);
+        reader->depth--;
+        reader->feed.unfinished = 0;
+        go_on(reader, reader->sink->end(reader->sink->context, &position, name));
+    }
+}
+
+/* The position of an instruction. */
+static struct position instruction_position(struct reader *reader) {
+    struct feed *feed = &reader->feed;
+    uint64_t end = feed_offset(feed);
+    uint64_t begin = feed_settle(feed, end);
+    if (is_in_document(reader)) {
+        while (blanks_of((char[]){feed_byte(feed, begin)}, 1) == 1) {
+            begin++;
+        }
+        begin = feed_byte(feed, begin + 1) == '?' ? begin : feed_last(feed, end, "<?");
+        feed_move(feed, end);
+    }
+    return (struct position){feed, begin, NULL, 0};
+}
+
+static void take_instruction(void *context, const xmlChar *target, const xmlChar *data) {
+    struct reader *reader = context;
+    if (is_good(reader)) {
+        struct position position = instruction_position(reader);
+        go_on(reader, reader->sink->instruction(reader->sink->context, &position, span_of(target), span_of(data)));
+    }
+}
+
+/* A comment vanishes. */
+static void take_comment(void *context, const xmlChar *text) {
+    struct reader *reader = context;
+    (void)text;
+    if (is_in_document(reader)) {
+        feed_move(&reader->feed, feed_offset(&reader->feed));
+    }
+}
+
+/* What was read is no markup that goes on. */
+static void move_on(struct reader *reader) {
+    if (reader->fault->kind == FAULT_NONE && is_in_document(reader)) {
+        feed_move(&reader->feed, feed_offset(&reader->feed));
+    }
+}
+
+static void take_document(void *context) {
+    struct reader *reader = context;
+    xmlSAX2StartDocument(reader->feed.parser);
+    move_on(reader);
+}
+
+static void take_subset(void *context, const xmlChar *name, const xmlChar *public, const xmlChar *system) {
+    struct reader *reader = context;
+    declarations_subset(&reader->declarations, name, public, system);
+    move_on(reader);
+    feed_move(&reader->feed, reader->feed.next + (feed_byte(&reader->feed, reader->feed.next) == '['));
+}
+
+static void take_subset_end(void *context, const xmlChar *name, const xmlChar *public, const xmlChar *system) {
+    struct reader *reader = context;
+    declarations_external(&reader->declarations, name, public, system);
+    move_on(reader);
+}
+
+static xmlParserInputPtr give_input(void *context, const xmlChar *public, const xmlChar *system) {
+    struct reader *reader = context;
+    return declarations_input(&reader->declarations, public, system);
+}
+
+static void take_entity(void *context, const xmlChar *name, int type, const xmlChar *public, const xmlChar *system, xmlChar *text) {
+    struct reader *reader = context;
+    bool is_parameter = type == XML_INTERNAL_PARAMETER_ENTITY || type == XML_EXTERNAL_PARAMETER_ENTITY;
+    declarations_entity(&reader->declarations, is_parameter, text);
+    bool is_first = is_parameter || xmlGetDocEntity(reader->feed.parser->myDoc, name) == NULL;
+    xmlSAX2EntityDecl(reader->feed.parser, name, type, public, system, text);
+    if (!is_parameter && is_first) {
+        declarations_declared(&reader->declarations, name);
+    }
+    move_on(reader);
+}
+
+static void take_unparsed(void *context, const xmlChar *name, const xmlChar *public, const xmlChar *system, const xmlChar *notation) {
+    struct reader *reader = context;
+    declarations_entity(&reader->declarations, false, NULL);
+    if (notation == NULL) {
+        fault_set(reader->fault, FAULT_MALFORMED, declarations_place(&reader->declarations), "malformed XML: no name after NDATA");
+    }
+    xmlSAX2UnparsedEntityDecl(reader->feed.parser, name, public, system, notation);
+    move_on(reader);
+}
+
+static void take_attribute(void *context, const xmlChar *element, const xmlChar *name, int type, int kind, const xmlChar *value, xmlEnumerationPtr choices) {
+    struct reader *reader = context;
+    (void)type;
+    (void)kind;
+    declarations_attribute(&reader->declarations, element, name, value);
+    xmlFreeEnumeration(choices);
+    move_on(reader);
+}
+
+static void take_element(void *context, const xmlChar *name, int type, xmlElementContentPtr content) {
+    struct reader *reader = context;
+    (void)type;
+    declarations_names(&reader->declarations, name, content);
+    move_on(reader);
+}
+
+static xmlEntityPtr give_general(void *context, const xmlChar *name) {
+    struct reader *reader = context;
+    return declarations_general(&reader->declarations, name);
+}
+
+static xmlEntityPtr give_parameter(void *context, const xmlChar *name) {
+    struct reader *reader = context;
+    return declarations_parameter(&reader->declarations, name);
+}
+
+/* Where an error is: at the tag that does not match, at the reference to the entity in whose text it is, or where libxml2 is. */
+static struct place error_place(struct reader *reader, const parser_error *error) {
+    struct feed *feed = &reader->feed;
+    if (!is_in_document(reader)) {
+        return declarations_place(&reader->declarations);
+    }
+    uint64_t offset = feed_offset(feed);
+    return feed_place(feed, error->code == XML_ERR_TAG_NAME_MISMATCH ? feed_last(feed, offset, "</") : offset);
+}
+
+static void take_undeclared(struct reader *reader, const char *name) {
+    struct place place = declarations_place(&reader->declarations);
+    if (declarations_are_all(&reader->declarations)) {
+        fault_set(reader->fault, FAULT_MALFORMED, place, "malformed XML: entity '%s' is not declared", name);
+    } else {
+        fault_set(reader->fault, FAULT_OUTSIDE, place, "entity '%s' is not declared in the document itself: outside the profile", name);
+    }
+}
+
+static void take_malformed(struct reader *reader, parser_error *error) {
+    struct bytes words = NO_BYTES;
+    add_words(&words, error);
+    const char *text = bytes_text(&words);
+    if (words.failed) {
+        out_of_memory(reader);
+    }
+    fault_set(reader->fault, FAULT_MALFORMED, error_place(reader, error), "malformed XML: %s", text);
+    bytes_free(&words);
+}
+
+/* Whether libxml2 is behind the system identifier of a parameter entity, or may be. It drops such a declaration if the identifier is no URI for it, and then
+ * a later declaration would count. */
+static bool declares_parameter(const xmlParserCtxt *parser, const char *identifier) {
+    static const char begin[] = "<!ENTITY";
+    const xmlParserInput *input = parser->input;
+    size_t length = identifier == NULL ? SIZE_MAX / 2 : strlen(identifier) + 2; /* it may have this word itself */
+    if ((size_t)(input->cur - input->base) < length + sizeof begin) {
+        return true;
+    }
+    const xmlChar *at = input->cur - length - (sizeof begin - 1);
+    while (at > input->base && memcmp(at, begin, sizeof begin - 1) != 0) {
+        at--;
+    }
+    at += sizeof begin - 1;
+    return memcmp(at - (sizeof begin - 1), begin, sizeof begin - 1) != 0 || at[blanks_of((const char *)at, (size_t)(input->cur - at))] == '%';
+}
+
+static void take_error(void *context, parser_error *error) {
+    struct reader *reader = current;
+    (void)context;
+    if (is_of_validity(error) || reader->fault->kind != FAULT_NONE) {
+        return;
+    }
+    if (error->code == XML_ERR_NO_MEMORY || reader->memory.has_failed) {
+        out_of_memory(reader);
+    } else if (error->code == XML_ERR_UNDECLARED_ENTITY || error->code == XML_WAR_UNDECLARED_ENTITY) {
+        take_undeclared(reader, error->str1 == NULL ? "" : error->str1);
+    } else if (error->domain == XML_FROM_NAMESPACE && error->code == XML_NS_ERR_QNAME) {
+        reader->has_bad_name = true;
+    } else if (error->domain == XML_FROM_NAMESPACE && error->code == XML_NS_ERR_ATTRIBUTE_REDEFINED) {
+        reader->has_double = true;
+    } else if (reader->feed.parser->instate == XML_PARSER_PI && (error->code == XML_ERR_PEREF_NO_NAME || error->code == XML_ERR_PEREF_SEMICOL_MISSING)) {
+        /* libxml2 looks for references there, and XML does not (4.4) */
+        fault_set(reader->fault, FAULT_OUTSIDE, error_place(reader, error), "a percent sign in an instruction of a parameter entity: outside the profile");
+    } else if (error->code == XML_ERR_INVALID_URI && declares_parameter(reader->feed.parser, error->str1)) {
+        reader->declarations.has_dropped = true;
+    } else if (is_limit(error)) {
+        fault_set(reader->fault, FAULT_OUTSIDE, error_place(reader, error), "%s", limit_words(error));
+    } else if (is_malformed(error)) {
+        take_malformed(reader, error);
+    }
+}
+
+/* An error that libxml2 reports to the process, and not to the parser: there is nothing to do. */
+static void ignore_error(void *context, parser_error *error) {
+    (void)context;
+    (void)error;
+}
+
+static void set_handlers(xmlSAXHandler *handlers) {
+    memset(handlers, 0, sizeof *handlers);
+    handlers->initialized = XML_SAX2_MAGIC;
+    handlers->startDocument = take_document;
+    handlers->internalSubset = take_subset;
+    handlers->externalSubset = take_subset_end;
+    handlers->entityDecl = take_entity;
+    handlers->unparsedEntityDecl = take_unparsed;
+    handlers->attributeDecl = take_attribute;
+    handlers->elementDecl = take_element;
+    handlers->resolveEntity = give_input;
+    handlers->getEntity = give_general;
+    handlers->getParameterEntity = give_parameter;
+    handlers->startElementNs = take_start;
+    handlers->endElementNs = take_end;
+    handlers->characters = take_text;
+    handlers->ignorableWhitespace = take_text;
+    handlers->cdataBlock = take_text;
+    handlers->processingInstruction = take_instruction;
+    handlers->comment = take_comment;
+    handlers->serror = take_error;
+}
+
+/* Makes the parser. It reads UTF-8, whatever the document declares. It puts the text of entities in the place of references, and opens no file: it is
+ * given none but the document's own entities. */
+static xmlParserCtxtPtr new_parser(struct reader *reader) {
+    xmlSAXHandler handlers;
+    set_handlers(&handlers);
+    xmlParserCtxtPtr parser = xmlCreateIOParserCtxt(&handlers, reader, feed_read, NULL, &reader->feed, XML_CHAR_ENCODING_NONE);
+    if (parser != NULL) {
+        xmlCtxtUseOptions(parser, XML_PARSE_HUGE | XML_PARSE_NONET | XML_PARSE_IGNORE_ENC);
+        parser->replaceEntities = 1;
+        parser->encoding = xmlStrdup((const xmlChar *)"UTF-8");
+        if (reader->feed.source->beside != NULL) {
+            parser->input->filename = (char *)xmlPathToURI((const xmlChar *)reader->feed.source->beside);
+        }
+    }
+    return parser;
+}
+
+/* Says whether the document was read to its end, if nothing else is known. */
+static void check_end(struct reader *reader) {
+    const struct feed *feed = &reader->feed;
+    if (reader->memory.has_failed) {
+        fault_free(reader->fault); /* what was found may come of that */
+        out_of_memory(reader);
+    } else if (!feed->parser->wellFormed || !feed->has_ended || feed->given < feed->text.length) {
+        fault_set(reader->fault, FAULT_MALFORMED, reader->feed.place, "malformed XML: not well-formed");
+    }
+}
+
+/* Reads the document to its end. */
+static void read_all(struct reader *reader) {
+    xmlParserCtxtPtr parser = new_parser(reader);
+    if (parser == NULL) {
+        out_of_memory(reader);
+        return;
+    }
+    reader->feed.parser = parser;
+    xmlParseDocument(parser);
+    check_end(reader);
+    xmlDocPtr document = parser->myDoc;
+    xmlFreeParserCtxt(parser);
+    xmlFreeDoc(document);
+}
+
+/* Does the same, with libxml2 made ready for it, and as it was afterwards. */
+static void read_by_libxml2(struct reader *reader) {
+    if (!parser_memory_prepare()) {
+        out_of_memory(reader);
+        return;
+    }
+    parser_memory_begin(&reader->memory);
+    struct reader *outer = current;
+    xmlStructuredErrorFunc old_report = xmlStructuredError;
+    void *old_context = xmlStructuredErrorContext;
+    current = reader;
+    xmlSetStructuredErrorFunc(NULL, ignore_error);
+    if (declarations_open(&reader->declarations, &reader->feed, reader->sink)) {
+        read_all(reader);
+    } else {
+        out_of_memory(reader);
+    }
+    declarations_free(&reader->declarations);
+    xmlSetStructuredErrorFunc(old_context, old_report);
+    current = outer;
+    parser_memory_end(&reader->memory);
+}
+
+void read_events(const struct byte_source *source, const struct event_sink *sink, struct fault *fault) {
+    struct reader *reader = calloc(1, sizeof *reader);
+    if (reader == NULL) {
+        fault_set(fault, FAULT_MEMORY, (struct place){0, 0}, "out of memory");
+        return;
+    }
+    reader->sink = sink;
+    reader->fault = fault;
+    feed_open(&reader->feed, source, fault);
+    reader->feed.before_read = before_read;
+    reader->feed.most = sink->memory == 0 ? USUAL_MEMORY : sink->memory;
+    reader->feed.context = reader;
+    read_by_libxml2(reader);
+    feed_close(&reader->feed);
+    free(reader->attributes);
+    free(reader->declared);
+    free(reader);
+}

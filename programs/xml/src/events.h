@@ -1,0 +1,89 @@
+/* Reads an XML document by libxml2, as a stream, and hands what is in it to a receiver: starts, texts and ends, with their places. */
+#ifndef EVENTS_H
+#define EVENTS_H
+
+#include "fault.h"
+
+struct feed;
+
+/* Where an event is. Its line and column are worked out when they are asked for, since most never are. */
+struct position {
+    struct feed *feed;
+    uint64_t at;
+    const char *mark; /* it is where this text is last before `at`; NULL: it is at `at` */
+    size_t blanks;    /* it is at the first of so many bytes that is no blank, if one is none */
+};
+
+/* The place of an event, while the receiver has the event. Events that come later have to be asked for later. */
+struct place place_of(const struct position *position);
+
+/* Keeps the position of an event instead of the one that was kept before, so that its place can be asked for later. */
+void keep_position(const struct position *position);
+
+/* The place of the position that was kept, in the document of this one. It is asked for before that of this one. */
+struct place kept_place(const struct position *position);
+
+/* A name. Its texts are there until the receiver returns, and their data is never NULL. */
+struct event_name {
+    struct span prefix; /* as it is written; empty: there is none */
+    struct span local;
+    struct span uri; /* of its namespace; empty: it has none, or its prefix is not declared */
+};
+
+struct event_attribute {
+    struct event_name name;
+    struct span value;
+};
+
+/* A declaration of a namespace. The prefix is empty for the default one. */
+struct event_declaration {
+    struct span prefix;
+    struct span uri;
+};
+
+struct start_event {
+    struct position position;
+    struct event_name name;
+    const struct event_declaration *declarations; /* also those that are there by default */
+    size_t declaration_count;
+    const struct event_attribute *attributes; /* without the declarations */
+    size_t attribute_count;
+};
+
+/* A text, or a part of one: those that follow each other are one. */
+struct text_event {
+    struct position position; /* of its first character that is no blank, or where it begins */
+    struct span text;
+};
+
+/* The receiver. Each function but `note`, `flush` and `held` returns false if no more is wanted. */
+struct event_sink {
+    bool (*start)(void *context, const struct start_event *start);
+    bool (*text)(void *context, const struct text_event *text);
+    bool (*end)(void *context, const struct position *position, const struct event_name *name);
+    bool (*instruction)(void *context, const struct position *position, struct span target, struct span data);
+    void (*note)(void *context, struct place place, const char *what); /* what is left out of the document without harm to its form */
+    void (*flush)(void *context); /* comes before more of the document is read, which may take long; NULL: not wanted */
+    size_t (*held)(const void *context); /* how many bytes it keeps of the document; NULL: none that grow with it */
+    void *context;
+    bool checks_names; /* a tag that breaks Namespaces in XML is a fault, with its clause */
+    size_t depth;      /* the most elements that may be open; 0: USUAL_DEPTH */
+    size_t memory;     /* the most bytes that may be held of the document; 0: USUAL_MEMORY */
+};
+
+/* The source of the XML. `read` writes at most `size` bytes, and their number to `length`: 0 at the end. False: it failed, and the fault says why. */
+struct byte_source {
+    bool (*read)(void *context, char *bytes, size_t size, size_t *length, struct fault *fault);
+    void *context;
+    const char *beside; /* the path of the document, beside which its external DTD and entities are read; NULL: they are not */
+};
+
+enum {
+    USUAL_DEPTH = 10000,
+    USUAL_MEMORY = 536870912
+};
+
+/* Reads a document. If there is no fault, the receiver has received all of it. */
+void read_events(const struct byte_source *source, const struct event_sink *sink, struct fault *fault);
+
+#endif

@@ -1,0 +1,54 @@
+/* What could have come at a place of a document, as the library tells it. */
+#ifndef EXPECTED_H
+#define EXPECTED_H
+
+#include "bytes.h"
+
+#include <rncv.h>
+#include <stdint.h>
+
+enum wanted_kind {
+    WANTED_NAME,
+    WANTED_NAMESPACE, /* every name of it */
+    WANTED_ANY        /* every name */
+};
+
+/* A class of names. Classes are named by their indexes. The index 0 is none. */
+struct wanted_class {
+    enum wanted_kind kind;
+    struct span uri;
+    struct span local;
+    uint32_t excepted; /* the first class that is left out */
+    uint32_t next;     /* the next one beside it */
+};
+
+/* A value, or a datatype. */
+struct wanted_text {
+    bool is_value;
+    struct span library;
+    struct span name;
+    struct span text; /* of a value */
+};
+
+struct expected {
+    struct bytes written; /* the names and texts are parts of it */
+    struct wanted_class *classes;
+    struct wanted_text *texts; /* each is there once */
+    uint32_t class_count, class_capacity;
+    uint32_t text_count, text_capacity;
+    uint32_t first; /* of the elements that may start, each of which is there once */
+    bool has_text;  /* a text that is not blank may come */
+    bool failed;    /* memory ran out */
+};
+
+/* Gets the text of what may come next in the document in progress. False: memory ran out. */
+bool expected_get(rncv_schema *schema, struct bytes *written);
+
+/* Reads such a text. False: memory ran out. Close it in each case. */
+bool expected_open(struct expected *expected, struct span written);
+void expected_close(struct expected *expected);
+
+/* Whether an element of this name may start. */
+bool expected_has(const struct expected *expected, struct span uri, struct span local);
+
+#endif

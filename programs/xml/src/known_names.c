@@ -1,0 +1,21 @@
+#include "known_names.h"
+
+static struct span span_of(const xmlChar *text) {
+    return text == NULL ? (struct span){"", 0} : (struct span){(const char *)text, strlen((const char *)text)};
+}
+
+/* Whether the text stays where it is. The texts of the names in an external entity do not. */
+static bool stays(xmlDictPtr dictionary, const xmlChar *text) {
+    return text == NULL || xmlDictOwns(dictionary, text) == 1;
+}
+
+const struct event_name *known_name_new(struct known_names *names, struct known_name *slot, xmlDictPtr dictionary, const xmlChar *local, const xmlChar *prefix,
+                                        const xmlChar *uri) {
+    struct event_name name = {span_of(prefix), span_of(local), span_of(uri)};
+    if (local == NULL || !stays(dictionary, local) || !stays(dictionary, prefix) || !stays(dictionary, uri)) {
+        names->other = name;
+        return &names->other;
+    }
+    *slot = (struct known_name){local, prefix, uri, name};
+    return &slot->name;
+}

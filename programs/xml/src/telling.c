@@ -1,0 +1,567 @@
+#include "telling.h"
+
+#include "near.h"
+#include "schema_asked.h"
+#include "scope.h"
+#include "xml_names.h"
+
+#include <stdlib.h>
+
+enum {
+    MOST_NAMES = 8,        /* in a message */
+    SHOWN_CHARACTERS = 40, /* of a text or a value */
+    ITEM_CHARACTERS = 80   /* of what is in a list */
+};
+
+#define XSD "http://www.w3.org/2001/XMLSchema-datatypes"
+
+/* What is told, and the namespaces at the place. */
+struct words {
+    const struct telling *telling;
+    struct answer *answer;
+    struct bytes *line; /* the message */
+    struct scope scope;
+    struct bytes near;  /* an expected name that is nearly the one that is there; empty: there is none */
+    size_t distance;
+};
+
+/* ---- what was expected */
+
+static void end_item(struct answer *answer) {
+    bytes_add_byte(&answer->expected, '\0');
+    answer->expected_count++;
+}
+
+static int compare(const void *one, const void *other) {
+    return strcmp(*(const char *const *)one, *(const char *const *)other);
+}
+
+/* Sorts the items, since the library tells them in an order of its own. */
+static void sort_items(struct answer *answer) {
+    struct bytes sorted = NO_BYTES;
+    const char **items = answer->expected_count == 0 ? NULL : malloc(answer->expected_count * sizeof *items);
+    if (items == NULL || answer->expected.failed) {
+        answer->expected.failed |= answer->expected_count > 0;
+        free(items);
+        return;
+    }
+    const char *at = answer->expected.data;
+    for (size_t index = 0; index < answer->expected_count; index++) {
+        items[index] = at;
+        at += strlen(at) + 1;
+    }
+    qsort(items, answer->expected_count, sizeof *items, compare);
+    for (size_t index = 0; index < answer->expected_count; index++) {
+        bytes_add(&sorted, items[index], strlen(items[index]) + 1);
+    }
+    free(items);
+    bytes_free(&answer->expected);
+    answer->expected = sorted;
+}
+
+/* Adds a text in quotes, with those inside as `\"`. */
+static void add_quoted(struct bytes *to, struct span text) {
+    bytes_add_byte(to, '"');
+    for (size_t at = 0; at < text.length; at++) {
+        bytes_add_text(to, text.data[at] == '"' ? "\\" : "");
+        bytes_add_byte(to, text.data[at]);
+    }
+    bytes_add_byte(to, '"');
+}
+
+static void add_datatype(struct bytes *to, const struct wanted_text *type) {
+    if (span_is(type->library, XSD)) {
+        bytes_add_text(to, "xsd:");
+    } else if (type->library.length > 0) {
+        bytes_add_byte(to, '{');
+        bytes_add(to, type->library.data, type->library.length);
+        bytes_add_byte(to, '}');
+    }
+    bytes_add(to, type->name.data, type->name.length);
+}
+
+/* Adds a name of an element in angle brackets, or with its namespace. */
+static void add_element(struct bytes *to, const struct scope *scope, struct span uri, struct span local) {
+    struct bytes name = NO_BYTES;
+    add_scoped(&name, scope, uri, local, false);
+    bool has_uri = name.length > 0 && name.data[0] == '{';
+    bool has_none = has_uri && uri.length == 0;
+    bytes_add_text(to, has_uri && !has_none ? "" : "<");
+    bytes_add(to, name.data + (has_none ? strlen("{}") : 0), name.length - (has_none ? strlen("{}") : 0));
+    bytes_add_text(to, has_none ? "> without namespace" : has_uri ? "" : ">");
+    to->failed |= name.failed;
+    bytes_free(&name);
+}
+
+/* Adds a class of names. */
+static void add_class(struct words *words, const struct wanted_class *class) {
+    struct bytes *to = &words->answer->expected;
+    if (class->kind == WANTED_NAME) {
+        add_element(to, &words->scope, class->uri, class->local);
+    } else {
+        bytes_add_text(to, class->kind == WANTED_ANY ? "any element" : class->uri.length == 0 ? "any element without namespace" : "any element of ");
+        bytes_add(to, class->uri.data, class->uri.length);
+        bytes_add_text(to, class->excepted == 0 ? "" : " (with exceptions)");
+    }
+    end_item(words->answer);
+}
+
+/* Keeps the name of the item that was added last if it is the nearest one so far. */
+static void keep_near(struct words *words, struct span name, struct span other, size_t begin) {
+    size_t distance = distance_of(name, other);
+    const struct bytes *expected = &words->answer->expected;
+    if (distance != NOT_NEAR && distance < words->distance && !expected->failed) {
+        words->distance = distance;
+        bytes_clear(&words->near);
+        bytes_add(&words->near, expected->data + begin, expected->length - 1 - begin);
+    }
+}
+
+static void add_classes(struct words *words, const struct expected *expected, struct span name) {
+    for (uint32_t class = expected->first; class != 0; class = expected->classes[class].next) {
+        size_t begin = words->answer->expected.length;
+        add_class(words, &expected->classes[class]);
+        if (expected->classes[class].kind == WANTED_NAME && name.length > 0) {
+            keep_near(words, name, expected->classes[class].local, begin);
+        }
+    }
+}
+
+/* Adds the values and the datatypes. */
+static void add_texts(struct words *words, const struct expected *expected) {
+    for (uint32_t at = 0; at < expected->text_count; at++) {
+        const struct wanted_text *text = &expected->texts[at];
+        if (text->is_value) {
+            add_quoted(&words->answer->expected, text->text);
+        } else {
+            add_datatype(&words->answer->expected, text);
+        }
+        end_item(words->answer);
+    }
+}
+
+/* Adds that any text may come, if that is so. */
+static void add_any_text(struct words *words, const struct expected *expected) {
+    if (expected->has_text && expected->text_count == 0) {
+        bytes_add_text(&words->answer->expected, "text");
+        end_item(words->answer);
+    }
+}
+
+/* ---- lines */
+
+static void say(struct words *words, const char *text) {
+    bytes_add_text(words->line, text);
+}
+
+static void say_span(struct words *words, struct span span) {
+    add_shown(words->line, span.data, span.length, ITEM_CHARACTERS);
+}
+
+static void say_element(struct words *words, struct span name) {
+    say(words, "<");
+    say_span(words, name);
+    say(words, ">");
+}
+
+static struct span found_name(const struct words *words) {
+    const struct bytes *name = &words->telling->found->name;
+    return (struct span){name->data, name->length};
+}
+
+/* The element that a text is in. */
+static struct span around(const struct words *words) {
+    return words->telling->found->is_end ? found_name(words) : scope_innermost(&words->scope);
+}
+
+/* Says a text in parentheses. */
+static void say_text(struct words *words, struct span text) {
+    struct bytes escaped = NO_BYTES;
+    add_quoted(&escaped, text);
+    size_t length = escaped.length < 2 ? 0 : escaped.length - 2;
+    say(words, " (\"");
+    add_shown(words->line, length == 0 ? "" : escaped.data + 1, length, SHOWN_CHARACTERS);
+    say(words, "\")");
+    words->line->failed |= escaped.failed;
+    bytes_free(&escaped);
+}
+
+/* Says a list of texts that each have a zero behind them, and no more than some of them. */
+static void say_list(struct words *words, const struct bytes *list, size_t count, const char *last) {
+    const char *at = list->data;
+    size_t shown = count > MOST_NAMES ? MOST_NAMES : count;
+    for (size_t index = 0; index < shown && !list->failed; index++) {
+        say(words, index == 0 ? "" : index + 1 == count ? last : ", ");
+        say_span(words, (struct span){at, strlen(at)});
+        at += strlen(at) + 1;
+    }
+    if (count > shown) {
+        say(words, " and ");
+        bytes_add_count(words->line, count - shown);
+        say(words, " more");
+    }
+}
+
+static void say_expected(struct words *words, const char *before) {
+    if (words->answer->expected_count > 0) {
+        say(words, before);
+        say_list(words, &words->answer->expected, words->answer->expected_count, " or ");
+    }
+}
+
+static void say_near(struct words *words) {
+    if (words->near.length > 0 && words->answer->expected_count > 1) {
+        say(words, "; did you mean ");
+        say_span(words, (struct span){words->near.data, words->near.length});
+        say(words, "?");
+    }
+}
+
+/* Says that the element around has to end, since nothing else may come. */
+static void say_end(struct words *words) {
+    struct span name = around(words);
+    if (name.length > 0) {
+        say(words, "; expected the end of ");
+        say_element(words, name);
+    } else {
+        say(words, "; no element is");
+    }
+}
+
+/* ---- reasons */
+
+static void tell_element(struct words *words) {
+    const struct telling *telling = words->telling;
+    words->answer->reason = REASON_ELEMENT;
+    say(words, ": ");
+    say_element(words, found_name(words));
+    say(words, " is not allowed here");
+    add_classes(words, telling->expected, finding_local(telling->found));
+    add_texts(words, telling->expected);
+    sort_items(words->answer);
+    add_any_text(words, telling->expected);
+    say_expected(words, "; expected ");
+    say_near(words);
+    if (words->answer->expected_count == 0) {
+        say_end(words);
+    }
+}
+
+static void tell_incomplete(struct words *words) {
+    const struct expected *expected = words->telling->expected;
+    words->answer->reason = REASON_INCOMPLETE;
+    say(words, ": ");
+    say_element(words, found_name(words));
+    say(words, " ends too early");
+    add_classes(words, expected, (struct span){"", 0});
+    add_texts(words, expected);
+    sort_items(words->answer);
+    if (words->answer->expected_count == 0) {
+        add_any_text(words, expected);
+    }
+    say_expected(words, ": expected ");
+}
+
+static void tell_text_not_allowed(struct words *words) {
+    const struct telling *telling = words->telling;
+    struct span name = around(words);
+    words->answer->reason = REASON_TEXT;
+    say(words, ": text is not allowed ");
+    say(words, name.length > 0 ? "in " : "here");
+    if (name.length > 0) {
+        say_element(words, name);
+    }
+    say_text(words, (struct span){telling->found->text.data, telling->found->text.length});
+    if (telling->before_text != NULL) {
+        add_classes(words, telling->before_text, (struct span){"", 0});
+        sort_items(words->answer);
+        say_expected(words, "; expected ");
+        if (words->answer->expected_count == 0) {
+            say_end(words);
+        }
+    }
+}
+
+/* Whether the text is a value of the datatype without its parameters, by the larger set, which has all types. True too if that is not known. */
+static bool is_of_type(const struct words *words, const struct wanted_text *type, struct span text) {
+    if (!span_is(type->library, XSD)) {
+        return true;
+    }
+    struct bytes name = NO_BYTES;
+    bytes_add(&name, type->name.data, type->name.length);
+    const char *bare = bytes_text(&name);
+    bool is_allowed = name.failed || asked_allows(bare, text, RNCV_DATATYPES_XML_SCHEMA);
+    words->line->failed |= name.failed;
+    bytes_free(&name);
+    return is_allowed;
+}
+
+/* Whether the values of a datatype depend on the prefixes around them: the library is not asked for these. */
+static bool has_context(const struct wanted_text *type) {
+    return span_is(type->library, XSD) && (span_is(type->name, "QName") || span_is(type->name, "NOTATION"));
+}
+
+/* Says that a value is wrong, and what it may be. `is_whole`: the text is not cut. */
+static void say_wrong(struct words *words, const struct expected *expected, struct span text, bool is_whole) {
+    const struct wanted_text *first = expected->text_count > 0 ? &expected->texts[0] : NULL;
+    add_texts(words, expected);
+    sort_items(words->answer);
+    if (expected->text_count != 1 || first->is_value || has_context(first)) {
+        say(words, " is wrong");
+        say_text(words, text);
+        say_expected(words, "; expected ");
+        return;
+    }
+    add_datatype(&words->answer->datatype, first);
+    struct span type = {words->answer->datatype.data, words->answer->datatype.length};
+    if (is_whole && !is_of_type(words, first, text)) {
+        say(words, " is no ");
+        say_span(words, type);
+    } else {
+        say(words, span_is(first->library, XSD) ? " is an " : " is a ");
+        say_span(words, type);
+        say(words, " that the schema does not allow");
+    }
+    say_text(words, text);
+}
+
+static void tell_text_value(struct words *words) {
+    static const struct expected nothing = {.first = 0};
+    const struct telling *telling = words->telling;
+    const struct finding *found = telling->found;
+    words->answer->reason = REASON_TEXT_VALUE;
+    say(words, ": the text of ");
+    say_element(words, around(words));
+    say_wrong(words, telling->before_text == NULL ? &nothing : telling->before_text, (struct span){found->text.data, found->text.length}, !found->is_cut);
+}
+
+static void tell_text(struct words *words) {
+    const struct expected *before_text = words->telling->before_text;
+    if (words->telling->found->is_end && (before_text == NULL || before_text->has_text)) {
+        tell_text_value(words);
+    } else {
+        tell_text_not_allowed(words);
+    }
+}
+
+/* ---- attributes */
+
+static void add_attribute_name(struct bytes *to, const struct event_name *name) {
+    bytes_add(to, name->prefix.data, name->prefix.length);
+    bytes_add_text(to, name->prefix.length > 0 ? ":" : "");
+    bytes_add(to, name->local.data, name->local.length);
+}
+
+void answer_attribute(struct answer *answer, const struct event_name *name, struct place place) {
+    bytes_clear(&answer->name);
+    add_attribute_name(&answer->name, name);
+    answer->stands = STANDS_ATTRIBUTE;
+    answer->place = place;
+}
+
+/* Begins what is said of an attribute. */
+static void say_attribute(struct words *words, size_t index, const char *after) {
+    const struct event_name *name = &words->telling->attributes[index].name;
+    answer_attribute(words->answer, name, words->telling->found->place);
+    add_attribute_name(&words->answer->attribute, name);
+    say(words, ": attribute ");
+    say_span(words, (struct span){words->answer->name.data, words->answer->name.length});
+    say(words, after);
+    say_element(words, found_name(words));
+}
+
+/* Whether the tag has an attribute that a line takes. */
+static bool has_attribute(struct words *words, uint32_t line) {
+    const struct telling *telling = words->telling;
+    bool is_there = false;
+    for (size_t at = 0; at < telling->last->count && !is_there; at++) {
+        is_there = declared_has(&telling->judge->declared, line, &telling->attributes[at].name);
+    }
+    return is_there;
+}
+
+/* Whether the last item of a list is there earlier too. Then it is removed. */
+static bool drop_double(struct answer *answer, size_t begin) {
+    struct bytes *list = &answer->expected;
+    if (list->failed) {
+        return false;
+    }
+    for (const char *at = list->data; at < list->data + begin; at += strlen(at) + 1) {
+        if (strcmp(at, list->data + begin) == 0) {
+            list->length = begin;
+            answer->expected_count--;
+            return true;
+        }
+    }
+    return false;
+}
+
+/* Adds the attributes that the tag could have and does not have; with `is_required` those that it has to have. */
+static void add_attributes(struct words *words, const struct declared_list *list, struct span name, bool is_required) {
+    struct declared *declared = &words->telling->judge->declared;
+    for (uint32_t at = 0; at < list->count; at++) {
+        uint32_t line = list->lines[at];
+        struct span uri;
+        struct span local;
+        bool is_wanted = declared_name(declared, line, &uri, &local) && !has_attribute(words, line) &&
+                         (!is_required || declared_requires(declared, &words->telling->last->name, line));
+        size_t begin = words->answer->expected.length;
+        if (is_wanted) {
+            add_scoped(&words->answer->expected, &words->scope, uri, local, true);
+            end_item(words->answer);
+            if (!drop_double(words->answer, begin) && name.length > 0) {
+                keep_near(words, name, local, begin);
+            }
+        }
+    }
+    sort_items(words->answer);
+}
+
+static void tell_attribute_not_allowed(struct words *words, const struct declared_list *list, size_t index) {
+    words->answer->reason = REASON_ATTRIBUTE;
+    say_attribute(words, index, " is not allowed in ");
+    add_attributes(words, list, words->telling->attributes[index].name.local, false);
+    say_expected(words, "; expected ");
+    say_near(words);
+}
+
+/* Whether the schema has an attribute of this name in the element. */
+static bool is_declared(const struct words *words, const struct declared_list *list, const struct event_name *name) {
+    bool is_there = false;
+    for (uint32_t at = 0; at < list->count && !is_there; at++) {
+        is_there = declared_has(&words->telling->judge->declared, list->lines[at], name);
+    }
+    return is_there;
+}
+
+/* Finds what the value of an attribute may be. Returns whether its own value is wrong; false too if that is not known. */
+static bool is_wrong_value(const struct words *words, const struct declared_list *list, size_t index, struct expected *expected) {
+    const struct telling *telling = words->telling;
+    const struct event_attribute *attribute = &telling->attributes[index];
+    struct bytes all = NO_BYTES;
+    struct bytes written = NO_BYTES;
+    bool is_known = true;
+    bool fits = false;
+    for (uint32_t at = 0; at < list->count && is_known && !fits; at++) {
+        if (declared_has(&telling->judge->declared, list->lines[at], &attribute->name)) {
+            is_known = declared_value(&telling->judge->declared, list->lines[at], RNCV_DATATYPES_XML_SCHEMA, attribute->value, &written, &fits);
+            bytes_add(&all, written.data, written.length);
+        }
+    }
+    is_known = expected_open(expected, (struct span){all.data, all.length}) && is_known && !all.failed;
+    bytes_free(&all);
+    bytes_free(&written);
+    return is_known && !fits;
+}
+
+static void tell_attribute_value(struct words *words, size_t index, const struct expected *expected) {
+    words->answer->reason = REASON_ATTRIBUTE_VALUE;
+    say_attribute(words, index, " of ");
+    say_wrong(words, expected, words->telling->attributes[index].value, true);
+}
+
+/* Tells that an attribute is not allowed, or that its value is wrong. False: neither is known. */
+static bool tell_one_attribute(struct words *words, const struct declared_list *list, size_t index) {
+    struct expected expected = {.first = 0};
+    if (!is_declared(words, list, &words->telling->attributes[index].name)) {
+        tell_attribute_not_allowed(words, list, index);
+        return true;
+    }
+    bool is_wrong = is_wrong_value(words, list, index, &expected);
+    if (is_wrong) {
+        tell_attribute_value(words, index, &expected);
+    }
+    expected_close(&expected);
+    return is_wrong;
+}
+
+/* Tells which attributes are missing. False: none is required by itself. */
+static bool tell_missing(struct words *words, const struct declared_list *list) {
+    struct answer *answer = words->answer;
+    add_attributes(words, list, (struct span){"", 0}, true);
+    if (answer->expected_count == 0 || answer->expected.failed) {
+        return false;
+    }
+    answer->reason = REASON_MISSING;
+    say(words, ": ");
+    say_element(words, found_name(words));
+    say(words, answer->expected_count == 1 ? " lacks attribute " : " lacks attributes ");
+    say_list(words, &answer->expected, answer->expected_count, " and ");
+    for (size_t at = 0; at + 1 < answer->expected.length; at++) {
+        bytes_add_byte(&answer->attribute, answer->expected.data[at] == '\0' ? ' ' : answer->expected.data[at]);
+    }
+    return true;
+}
+
+/* Tells that the attributes are wrong in some way. */
+static void tell_attributes(struct words *words, const struct declared_list *list) {
+    words->answer->reason = REASON_ATTRIBUTES;
+    say(words, ": the attributes of ");
+    say_element(words, found_name(words));
+    say(words, " are not those of the schema");
+    if (list->is_known) {
+        add_attributes(words, list, (struct span){"", 0}, false);
+        say_expected(words, "; expected ");
+    }
+}
+
+/* Tells that one attribute is wrong only beside the others. */
+static void tell_together(struct words *words, size_t index) {
+    words->answer->reason = REASON_ATTRIBUTES;
+    say_attribute(words, index, " of ");
+    say(words, " does not go with the others");
+    say_text(words, words->telling->attributes[index].value);
+}
+
+static void tell_known_attributes(struct words *words, const struct declared_list *list) {
+    const struct telling *telling = words->telling;
+    bool is_told = telling->attribute != SIZE_MAX && tell_one_attribute(words, list, telling->attribute);
+    for (size_t at = 0; at < telling->last->count && telling->attribute == SIZE_MAX && !is_told; at++) {
+        is_told = tell_one_attribute(words, list, at);
+    }
+    if (!is_told && telling->attribute != SIZE_MAX) {
+        tell_together(words, telling->attribute);
+    } else if (!is_told && !tell_missing(words, list)) {
+        tell_attributes(words, list);
+    }
+}
+
+/* Tells what is wrong with the attributes of a start whose name is expected. */
+static void tell_start(struct words *words) {
+    const struct telling *telling = words->telling;
+    struct declared_list list = {NULL, 0, 0, false};
+    rncv_verdict verdict;
+    rncv_events_finish(&telling->judge->schema, &verdict); /* one may be in progress */
+    if (telling->found->is_kept && declared_open(&telling->judge->declared, &telling->judge->schema)) {
+        declared_find(&telling->judge->declared, &telling->last->name, &list);
+    }
+    if (list.is_known) {
+        tell_known_attributes(words, &list);
+    } else if (telling->attribute != SIZE_MAX) {
+        tell_together(words, telling->attribute);
+    } else {
+        tell_attributes(words, &list);
+    }
+    declared_list_free(&list);
+}
+
+/* ---- all of them */
+
+void tell(const struct telling *telling) {
+    struct words words = {telling, telling->answer, &telling->answer->message, {.depth = 0}, NO_BYTES, NOT_NEAR};
+    const struct finding *found = telling->found;
+    scope_open(&words.scope, &telling->judge->log, telling->answer->stands == STANDS_TEXT ? found->text_at : found->at, found->is_kept);
+    if (telling->answer->stands == STANDS_TEXT) {
+        tell_text(&words);
+    } else if (found->is_end) {
+        tell_incomplete(&words);
+    } else if (telling->answer->stands == STANDS_TAG && !expected_has(telling->expected, finding_uri(found), finding_local(found))) {
+        tell_element(&words);
+    } else {
+        tell_start(&words);
+    }
+    telling->answer->message.failed |= words.scope.failed || words.near.failed || telling->answer->expected.failed || telling->answer->attribute.failed ||
+                                       telling->answer->datatype.failed;
+    scope_close(&words.scope);
+    bytes_free(&words.near);
+}
