@@ -21,6 +21,7 @@ use Rattle.rng_deriv_ways.proofs.PatternNodes.{is_over}
 use Rattle.rng_expected.specs.plain.Leaves.{AddsMarks, AddsRow, AreFoundDownTo, AreLeaves, IsLeafAt, IsOneOf, Stands, StandsBelow, StandsIn}
 use Rattle.rng_expected.specs.plain.Leaves.{is_leaf, nullable_in, parts_where}
 use Rattle.rng_expected.specs.declared.leaves.Standing.{Standing}
+use Rattle.rng_expected.specs.declared.leaves.Standing.TheVariants as standings
 use Rattle.rng_expected.proofs.Marks.{no_marks}
 use Rattle.rng_expected.proofs.Standings.{parts_below, stands_in_parts, stands_itself}
 
@@ -59,12 +60,12 @@ no_parts_there s nullable ns i p found c g j o =
 
 -- a leaf that is neither an element nor a list, a data or a value is text
 pub leaf_is_text : (t : Table) (ns : List Node) (n : PatternNumber) (p : Pattern) → IsPatternTable ns → slice_get ns n.0 ≡ Some (node_of p)
-    → IsLeafAt ns n → ((e : _) → p ≡ pattern.Element e → ⊥) → ((d : _) → p ≡ pattern.Data d → ⊥) → tree_of t ns n.0 ≡ s_text
+    → IsLeafAt standings.First ns n → ((e : _) → p ≡ pattern.Element e → ⊥) → ((d : _) → p ≡ pattern.Data d → ⊥) → tree_of t ns n.0 ≡ s_text
 leaf_is_text t ns n p table found leaf e d =
     is_over t ns n.0 p p table found refl
-    ∙ ap (tree_over t (tree_of t ns)) (only p (sym (ap is_leaf (get_or_from_slice_get ns n.0 (node_of p) node.not_allowed found)) ∙ leaf.leaf) e d)
+    ∙ ap (tree_over t (tree_of t ns)) (only p (sym (ap (is_leaf standings.First) (get_or_from_slice_get ns n.0 (node_of p) node.not_allowed found)) ∙ leaf.leaf) e d)
   where
-    only : (p : Pattern) → is_leaf (node_of p) ≡ true → ((e : _) → p ≡ pattern.Element e → ⊥) → ((d : _) → p ≡ pattern.Data d → ⊥)
+    only : (p : Pattern) → is_leaf standings.First (node_of p) ≡ true → ((e : _) → p ≡ pattern.Element e → ⊥) → ((d : _) → p ≡ pattern.Data d → ⊥)
         → node_of p ≡ node.text
     only pattern.NotAllowed is e d = absurd cc
     only pattern.Empty is e d = absurd cc
@@ -85,13 +86,13 @@ module _ (s : Standing) (t : Table) (ns : List Node) (n : PatternNumber) (p : Pa
   over = is_over t ns n.0 p p table found refl
 
   -- a leaf is found
-  pub adds_leaf : (marks : List Bool) (before after : List PatternNumber) → n.0 < length ns → is_leaf (node_of p) ≡ true → after ≡ before ++ n ∷ []
+  pub adds_leaf : (marks : List Bool) (before after : List PatternNumber) → n.0 < length ns → is_leaf s (node_of p) ≡ true → after ≡ before ++ n ∷ []
       → AddsRow s t ns n.0 marks marks before after
   adds_leaf marks before after inside leaf more = record {
     parts = [];
     found = n ∷ [];
     below = All-nil (λ m. m < n.0);
-    leaves = All-cons (IsLeafAt ns) n [] (record { inside = inside; leaf = ap is_leaf at ∙ leaf }) (All-nil (IsLeafAt ns));
+    leaves = All-cons (IsLeafAt s ns) n [] (record { inside = inside; leaf = ap (is_leaf s) at ∙ leaf }) (All-nil (IsLeafAt s ns));
     marks = no_marks marks;
     more = more;
     law = λ l. let same = stands_itself s (tree_of t ns) l t (node_of p) leaf in (
@@ -104,13 +105,13 @@ module _ (s : Standing) (t : Table) (ns : List Node) (n : PatternNumber) (p : Pa
   }
 
   -- the parts of another pattern are marked
-  pub adds_parts : (old new : List Bool) (before : List PatternNumber) → is_leaf (node_of p) ≡ false
+  pub adds_parts : (old new : List Bool) (before : List PatternNumber) → is_leaf s (node_of p) ≡ false
       → AddsMarks old new (parts_where s (nullable_in t ns) (node_at ns n.0)) → AddsRow s t ns n.0 old new before before
   adds_parts old new before other marked = record {
     parts = parts_where s (nullable_in t ns) (node_of p);
     found = [];
     below = parts_below s (nullable_in t ns) (node_of p) n.0 (table.falls n.0 (node_of p) found);
-    leaves = All-nil (IsLeafAt ns);
+    leaves = All-nil (IsLeafAt s ns);
     marks = subst (λ m. AddsMarks old new (parts_where s (nullable_in t ns) m)) at marked;
     more = sym (append-nil before);
     law = λ l. let same = stands_in_parts s (tree_of t ns) l t (node_of p) other in (
@@ -130,7 +131,7 @@ module _ (s : Standing) (t : Table) (ns : List Node) (ps : List PatternNumber) w
       → IsMarked old n → AddsRow s t ns n old new before after → AreFoundDownTo s t ns ps n new after
   unfolding of
   one_more_found n old new before after f marked row = record {
-    leaves = subst (All (IsLeafAt ns)) (sym row.more) (All-append (IsLeafAt ns) before row.found f.leaves row.leaves);
+    leaves = subst (All (IsLeafAt s ns)) (sym row.more) (All-append (IsLeafAt s ns) before row.found f.leaves row.leaves);
     law = λ l. (λ h. on l ((f.law l).0 h), λ d. (f.law l).1 (back l d));
   }
     where
@@ -184,7 +185,7 @@ module _ (s : Standing) (t : Table) (ns : List Node) (ps : List PatternNumber) w
       → All (λ m. m.0 < length ns) ps → AreFoundDownTo s t ns ps (length ns) marks []
   unfolding of
   none_found unmarked marks none marked inside = record {
-    leaves = All-nil (IsLeafAt ns);
+    leaves = All-nil (IsLeafAt s ns);
     law = λ l. (
       λ h. inl (
         h.0.0,

@@ -4,3 +4,6 @@ pub mod FoundLeaves
 pub mod NextLeaves
 pub mod CollectedLeaves
 pub mod OtherEvents
+pub mod TagLeaves
+pub mod TagParts
+pub mod NeededNames

@@ -23,13 +23,13 @@ use Rattle.rng_expected.proofs.FoundLeaves.{member_before}
 pub begins_first : (p l : Simple ℕ) → BeginsWith p l ↔ Stands standings.First p l
 begins_first s_not_allowed l = (λ h. h, λ h. h)
 begins_first s_empty l = (λ h. h, λ h. h)
-begins_first s_text l = (λ h. h, λ h. h)
-begins_first (s_leaf k) l = (λ h. h, λ h. h)
-begins_first (s_attribute c p) l = (λ h. h, λ h. h)
-begins_first (s_list p) l = (λ h. h, λ h. h)
-begins_first (s_data d) l = (λ h. h, λ h. h)
-begins_first (s_data_except d p) l = (λ h. h, λ h. h)
-begins_first (s_value d v) l = (λ h. h, λ h. h)
+begins_first s_text l = (λ h. (refl, h), λ h. h.1)
+begins_first (s_leaf k) l = (λ h. (refl, h), λ h. h.1)
+begins_first (s_attribute c p) l = (λ h. absurd h, λ h. let no = h.0 in absurd cc)
+begins_first (s_list p) l = (λ h. (refl, h), λ h. h.1)
+begins_first (s_data d) l = (λ h. (refl, h), λ h. h.1)
+begins_first (s_data_except d p) l = (λ h. (refl, h), λ h. h.1)
+begins_first (s_value d v) l = (λ h. (refl, h), λ h. h.1)
 begins_first (s_one_or_more p) l = begins_first p l
 begins_first (s_joined choice p q) l = (
   λ h. ⊎_elim (λ f. inl ((begins_first p l).0 f)) (λ f. inr ((begins_first q l).0 f)) h,

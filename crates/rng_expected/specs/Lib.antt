@@ -1,4 +1,5 @@
 pub mod Expectations
 pub mod Laws
+pub mod Tags
 pub mod plain
 pub mod views

@@ -1,3 +1,4 @@
 -- Plain functions, for proofs.
 pub mod Leaves
 pub mod Nexts
+pub mod TagLeaves

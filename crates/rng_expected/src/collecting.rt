@@ -9,6 +9,7 @@ ghost use Rattle.rng_expected.specs.plain.Leaves.{IsLeafAt};
 ghost use Rattle.rng_expected.specs.plain.Nexts.{with_datatype, with_leaf, with_leaves, with_value};
 ghost use Rattle.rng_expected.specs.views.Next.{next_of};
 
+use crate::leaves::Standing;
 use crate::next::Expected;
 use rng_deriv_table::{Pattern, PatternNumber, PatternTable};
 use rng_model::{
@@ -23,7 +24,7 @@ pub fn collected<'a>(
     table: &PatternTable,
     found: &[PatternNumber],
 ) -> Result<Expected<'a>, OutOfMemory>
-    requires { All (IsLeafAt table.now) found.now }
+    requires { All (IsLeafAt Standing.First table.now) found.now }
     ensures { IfOk result (λ e. next_of e ≡ with_leaves (grammar_of grammar.now) (map (λ n. tree_of grammar.now table.now n.0) found.now)) }
 {
     let mut expected = Expected::nothing(alloc);
@@ -40,7 +41,7 @@ fn take_leaf<'a>(
     leaf: PatternNumber,
     expected: &mut Expected<'a>,
 ) -> Result<(), OutOfMemory>
-    requires { IsLeafAt table.now leaf }
+    requires { IsLeafAt Standing.First table.now leaf }
     ensures { OnOk result (next_of expected.new ≡ with_leaf (grammar_of grammar.now) (next_of expected.old) (tree_of grammar.now table.now leaf.0)) }
 {
     match table.pattern(leaf) {

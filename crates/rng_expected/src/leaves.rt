@@ -1,10 +1,10 @@
-// The leaves that stand first, or alone, in patterns.
+// The leaves that stand first, or alone, in patterns, and the attributes.
 ghost use Rattle.std.specs.Prelude.{◌≡◌, ◌<◌, ◌++◌, [], ◌∷◌, ℕ, All, IfOk, OnOk, length, map};
 ghost use Rattle.rng_model.specs.simple.Table.{Table};
 ghost use Rattle.rng_deriv_table.specs.plain.Selecting.{node_at};
 ghost use Rattle.rng_deriv_table.specs.views.Node.{node_of};
 ghost use Rattle.rng_deriv_table.specs.views.PatternTable.{IsPatternTable};
-ghost use Rattle.rng_expected.specs.plain.Leaves.{AddsMarks, AddsRow, AreLeaves, is_leaf, lets, nullable_in, parts_where, side};
+ghost use Rattle.rng_expected.specs.plain.Leaves.{AddsMarks, AddsRow, AreLeaves, is_leaf, lets, lets_behind, nullable_in, parts_where, side, takes_items};
 
 use rng_deriv_table::{Pattern, PatternNumber, PatternTable};
 use rng_model::OutOfMemory;
@@ -17,11 +17,13 @@ pub enum Standing {
     First,
     /// It may take the only item: all that is beside it may match nothing.
     Alone,
+    /// It is an attribute, which may be in the tag whatever is beside it.
+    InTag,
 }
 
-/// Returns the leaves that stand so in the patterns: elements, texts, lists, data and values.
+/// Returns the leaves that stand so in the patterns: elements, texts, lists, data and values, or the attributes.
 ///
-/// RELAX NG Specification, sections 6.2.1 to 6.2.6. Fails only when out of memory. Each pattern of the table is visited at
+/// RELAX NG Specification, sections 6.2.1 to 6.2.8. Fails only when out of memory. Each pattern of the table is visited at
 /// most once, and time and memory are linear in the table.
 pub fn leaves(
     alloc: Global,
@@ -59,7 +61,7 @@ fn take_row(
     ensures long { OnOk result (length marks.new.items ≡ length marks.old.items) }
     ensures row { OnOk result ((t : Table) → AddsRow standing t table.now number.0 marks.old.items marks.new.items found.old.items found.new.items) }
 {
-    if is_leaf(table.pattern(number)) {
+    if is_leaf(standing, table.pattern(number)) {
         found.push(number)?;
         return Ok(());
     }
@@ -67,14 +69,25 @@ fn take_row(
     Ok(())
 }
 
-/// Returns whether the pattern is a leaf that may take an item.
-fn is_leaf(pattern: &Pattern) -> bool
-    ensures { result ≡ is_leaf (node_of pattern.now) }
+/// Returns whether leaves that stand so take items of the content.
+fn takes_items(standing: Standing) -> bool
+    ensures { result ≡ takes_items standing }
 {
-    matches!(
-        pattern,
-        Pattern::Text | Pattern::Element(_) | Pattern::Data(_)
-    )
+    match standing {
+        Standing::First | Standing::Alone => true,
+        Standing::InTag => false,
+    }
+}
+
+/// Returns whether the pattern is a leaf that may stand so.
+fn is_leaf(standing: Standing, pattern: &Pattern) -> bool
+    ensures { result ≡ is_leaf standing (node_of pattern.now) }
+{
+    match pattern {
+        Pattern::Text | Pattern::Element(_) | Pattern::Data(_) => takes_items(standing),
+        Pattern::Attribute(_) => !takes_items(standing),
+        _ => false,
+    }
 }
 
 /// Marks the parts that stand so in the pattern with this number.
@@ -112,11 +125,17 @@ fn mark_group(
     requires second { second.0 < length table.now }
     requires long { length marks.old.items ≡ length table.now }
     ensures { (t : Table) → AddsMarks marks.old.items marks.new.items
-        (side (lets standing (nullable_in t table.now second.0)) first.0 ++ side (nullable_in t table.now first.0) second.0) }
+        (side (lets standing (nullable_in t table.now second.0)) first.0 ++ side (lets_behind standing (nullable_in t table.now first.0)) second.0) }
 {
     let behind = table.facts(second).nullable;
     let before = table.facts(first).nullable;
-    mark_two(marks, first, lets(standing, behind), second, before);
+    mark_two(
+        marks,
+        first,
+        lets(standing, behind),
+        second,
+        lets_behind(standing, before),
+    );
 }
 
 /// Marks the sides that stand so in an interleave.
@@ -149,8 +168,18 @@ fn lets(standing: Standing, nullable: bool) -> bool
     ensures { result ≡ lets standing nullable }
 {
     match standing {
-        Standing::First => true,
+        Standing::First | Standing::InTag => true,
         Standing::Alone => nullable,
+    }
+}
+
+/// Returns whether the first part of a group lets the second one stand so, given whether the first may match nothing.
+fn lets_behind(standing: Standing, nullable: bool) -> bool
+    ensures { result ≡ lets_behind standing nullable }
+{
+    match standing {
+        Standing::First | Standing::Alone => nullable,
+        Standing::InTag => true,
     }
 }
 

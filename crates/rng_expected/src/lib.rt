@@ -3,6 +3,7 @@
 //! `expected` returns the name classes of the elements that may start, whether a text may come, and the values and the
 //! datatypes of which it may be. It is right for what is left of the pattern, by the rules of matching (RELAX NG
 //! Specification, section 6.2): an element pattern counts where it stands, whether or not its body can be matched.
+//! `expected_tag` returns the attributes that the tag of such an element may have, and the names that it must have.
 //! `expectation_laws` says that no continuation is valid after a start that is not expected, or after an end where no
 //! alternative may end.
 #![tactic(auto)]
@@ -12,10 +13,13 @@ ghost use Rattle.rng_expected.specs.Laws.{EarlyEndIsInvalid, OtherStartIsInvalid
 mod collecting;
 mod expecting;
 mod leaves;
+mod needs;
 mod next;
+mod tags;
 
 pub use expecting::expected;
 pub use next::Expected;
+pub use tags::{ExpectedTag, expected_tag};
 
 /// States what cannot come (RELAX NG Specification, sections 6.2 and 6.3). The function does nothing: its contract is the
 /// laws. After a start whose name is in no class with which an alternative may begin, and after the end of an element of

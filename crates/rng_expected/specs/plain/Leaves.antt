@@ -1,5 +1,5 @@
 -- Where leaves stand in patterns, by the numbers of these.
-use Rattle.std.specs.Prelude.{◌≡◌, ◌↔◌, ◌⊎◌, ℕ, ◌<◌, List, [], ◌∷◌, ◌++◌, length, All, Contains, Bool, true, false, cond}
+use Rattle.std.specs.Prelude.{◌≡◌, ◌↔◌, ◌⊎◌, ℕ, ◌<◌, List, [], ◌∷◌, ◌++◌, length, All, Contains, Bool, true, false, not, cond}
 use Rattle.rng_model.specs.simple.Table.{Table}
 use Rattle.rng_model.specs.simple.Tree.{Simple, choice, group, interleave, s_not_allowed, s_empty, s_text, s_leaf, s_attribute, s_list, s_data}
 use Rattle.rng_model.specs.simple.Tree.{s_data_except, s_value, s_one_or_more, s_joined}
@@ -12,40 +12,55 @@ use Rattle.rng_deriv_table.specs.declared.pattern.PatternNumber.{PatternNumber}
 use Rattle.rng_expected.specs.declared.leaves.Standing.{Standing}
 use Rattle.rng_expected.specs.declared.leaves.Standing.TheVariants as standings
 
+-- such leaves take items of the content, and no attributes
+abbrev pub takes_items : Standing → Bool
+takes_items standings.First = true
+takes_items standings.Alone = true
+takes_items standings.InTag = false
+
 -- a part lets another one beside it stand so, given whether it may match nothing
 abbrev pub lets : Standing → Bool → Bool
 lets standings.First nullable = true
 lets standings.Alone nullable = nullable
+lets standings.InTag nullable = true
 
--- the leaf stands first in the pattern, or alone, where all that is beside it may match nothing
+-- the same for the part before it in a group
+abbrev pub lets_behind : Standing → Bool → Bool
+lets_behind standings.First nullable = nullable
+lets_behind standings.Alone nullable = nullable
+lets_behind standings.InTag nullable = true
+
+-- The leaf stands first in the pattern, or alone, where all that is beside it may match nothing, or it is an attribute, in
+-- whatever order.
 abbrev pub Stands : Standing → Simple ℕ → Simple ℕ → Type 0
 Stands s s_not_allowed l = ⊥
 Stands s s_empty l = ⊥
-Stands s s_text l = l ≡ s_text
-Stands s (s_leaf k) l = l ≡ s_leaf k
-Stands s (s_attribute c p) l = ⊥
-Stands s (s_list p) l = l ≡ s_list p
-Stands s (s_data d) l = l ≡ s_data d
-Stands s (s_data_except d p) l = l ≡ s_data_except d p
-Stands s (s_value d v) l = l ≡ s_value d v
+Stands s s_text l = (takes_items s ≡ true) × (l ≡ s_text)
+Stands s (s_leaf k) l = (takes_items s ≡ true) × (l ≡ s_leaf k)
+Stands s (s_attribute c p) l = (takes_items s ≡ false) × (l ≡ s_attribute c p)
+Stands s (s_list p) l = (takes_items s ≡ true) × (l ≡ s_list p)
+Stands s (s_data d) l = (takes_items s ≡ true) × (l ≡ s_data d)
+Stands s (s_data_except d p) l = (takes_items s ≡ true) × (l ≡ s_data_except d p)
+Stands s (s_value d v) l = (takes_items s ≡ true) × (l ≡ s_value d v)
 Stands s (s_one_or_more p) l = Stands s p l
 Stands s (s_joined choice p q) l = Stands s p l ⊎ Stands s q l
-Stands s (s_joined group p q) l = ((lets s (is_nullable q) ≡ true) × Stands s p l) ⊎ ((is_nullable p ≡ true) × Stands s q l)
+Stands s (s_joined group p q) l = ((lets s (is_nullable q) ≡ true) × Stands s p l) ⊎ ((lets_behind s (is_nullable p) ≡ true) × Stands s q l)
 Stands s (s_joined interleave p q) l = ((lets s (is_nullable q) ≡ true) × Stands s p l) ⊎ ((lets s (is_nullable p) ≡ true) × Stands s q l)
 
 -- ---- one pattern
 
-abbrev pub is_leaf : Node → Bool
-is_leaf node.not_allowed = false
-is_leaf node.empty = false
-is_leaf node.text = true
-is_leaf (node.choice ms) = false
-is_leaf (node.group a b) = false
-is_leaf (node.interleave a b) = false
-is_leaf (node.one_or_more a) = false
-is_leaf (node.element e) = true
-is_leaf (node.attribute a) = false
-is_leaf (node.data_at d) = true
+-- the pattern is a leaf that may stand so
+abbrev pub is_leaf : Standing → Node → Bool
+is_leaf s node.not_allowed = false
+is_leaf s node.empty = false
+is_leaf s node.text = takes_items s
+is_leaf s (node.choice ms) = false
+is_leaf s (node.group a b) = false
+is_leaf s (node.interleave a b) = false
+is_leaf s (node.one_or_more a) = false
+is_leaf s (node.element e) = takes_items s
+is_leaf s (node.attribute a) = not (takes_items s)
+is_leaf s (node.data_at d) = takes_items s
 
 -- a number, under a test
 abbrev pub side : Bool → ℕ → List ℕ
@@ -57,7 +72,7 @@ parts_where s nullable node.not_allowed = []
 parts_where s nullable node.empty = []
 parts_where s nullable node.text = []
 parts_where s nullable (node.choice ms) = ms
-parts_where s nullable (node.group a b) = side (lets s (nullable b)) a ++ side (nullable a) b
+parts_where s nullable (node.group a b) = side (lets s (nullable b)) a ++ side (lets_behind s (nullable a)) b
 parts_where s nullable (node.interleave a b) = side (lets s (nullable b)) a ++ side (lets s (nullable a)) b
 parts_where s nullable (node.one_or_more a) = a ∷ []
 parts_where s nullable (node.element e) = []
@@ -82,10 +97,10 @@ StandsInSome s of ms l = (m : PatternNumber) × Contains ms m × Stands s (of m.
 abbrev pub IsOneOf : (ℕ → Simple ℕ) → List PatternNumber → Simple ℕ → Type 0
 IsOneOf of ms l = (m : PatternNumber) × Contains ms m × (l ≡ of m.0)
 
--- the number is that of a leaf
-pub record IsLeafAt (ns : List Node) (n : PatternNumber) : Type 0 where
+-- the number is that of a leaf that may stand so
+pub record IsLeafAt (s : Standing) (ns : List Node) (n : PatternNumber) : Type 0 where
   pub inside : n.0 < length ns
-  pub leaf : is_leaf (node_at ns n.0) ≡ true
+  pub leaf : is_leaf s (node_at ns n.0) ≡ true
 
 -- these numbers are marked in addition
 pub record AddsMarks (old new : List Bool) (numbers : List ℕ) : Type 0 where
@@ -97,7 +112,7 @@ pub record AddsRow (s : Standing) (t : Table) (ns : List Node) (n : ℕ) (old ne
   pub parts : List ℕ
   pub found : List PatternNumber
   pub below : All (λ m. m < n) parts
-  pub leaves : All (IsLeafAt ns) found
+  pub leaves : All (IsLeafAt s ns) found
   pub marks : AddsMarks old new parts
   pub more : after ≡ before ++ found
   pub law : (l : Simple ℕ) → Stands s (tree_of t ns n) l ↔ (StandsIn s (tree_of t ns) parts l ⊎ IsOneOf (tree_of t ns) found l)
@@ -108,10 +123,10 @@ StandsBelow s of n marks l = (m : ℕ) × (m < n) × IsMarked marks m × Stands 
 
 -- the leaves that stand so in these patterns are found, or are in marked patterns below this number
 pub record AreFoundDownTo (s : Standing) (t : Table) (ns : List Node) (ps : List PatternNumber) (n : ℕ) (marks : List Bool) (found : List PatternNumber) : Type 0 where
-  pub leaves : All (IsLeafAt ns) found
+  pub leaves : All (IsLeafAt s ns) found
   pub law : (l : Simple ℕ) → StandsInSome s (tree_of t ns) ps l ↔ (StandsBelow s (tree_of t ns) n marks l ⊎ IsOneOf (tree_of t ns) found l)
 
 -- these are the leaves that stand so in these patterns
 pub record AreLeaves (s : Standing) (t : Table) (ns : List Node) (ps : List PatternNumber) (found : List PatternNumber) : Type 0 where
-  pub leaves : All (IsLeafAt ns) found
+  pub leaves : All (IsLeafAt s ns) found
   pub law : (l : Simple ℕ) → StandsInSome s (tree_of t ns) ps l ↔ IsOneOf (tree_of t ns) found l

@@ -2,6 +2,7 @@ use Rattle.std.proofs.Common.{◌∙◌, All, ap, map, subst, sym}
 use Rattle.rng_model.specs.simple.Table.{grammar_of}
 use Rattle.rng_deriv_table.specs.views.Trees.{tree_of}
 use Rattle.rng_deriv_table.specs.declared.pattern.PatternNumber.{PatternNumber}
+use Rattle.rng_expected.specs.declared.leaves.Standing.TheVariants as standings
 use Rattle.rng_expected.specs.plain.Leaves.{IsLeafAt}
 use Rattle.rng_expected.specs.plain.Nexts.{with_leaves}
 use Rattle.rng_expected.specs.views.Next.{next_of}
@@ -17,4 +18,4 @@ returns c =
 
 pub collected-requires : goal.collected-requires
 collected-requires c =
-    subst (All (IsLeafAt c.args.table.now)) (sym c.as_slice.ensures.value) (c.in_ok-found.ensures c.args.grammar.now).leaves
+    subst (All (IsLeafAt standings.First c.args.table.now)) (sym c.as_slice.ensures.value) (c.in_ok-found.ensures c.args.grammar.now).leaves

@@ -1,0 +1,167 @@
+// What the tag of an element may have.
+ghost use Rattle.std.specs.Prelude.{◌≡◌, ◌<◌, All, IfOk, IfSome, Some, length, map};
+ghost use Rattle.std.specs.Option.{option_map};
+ghost use Rattle.rng_model.specs.matching.GrammarMatching.{reading_of};
+ghost use Rattle.rng_model.specs.names.NameViews.{class_of, name_of};
+ghost use Rattle.rng_model.specs.simple.TableRules.{IsClassPaired, IsPaired, IsTable};
+ghost use Rattle.rng_model.specs.simple.Table.{Table};
+ghost use Rattle.rng_deriv_table.specs.views.Trees.{attribute_found, tree_of};
+ghost use Rattle.rng_deriv_ways.specs.plain.Starting.{IsReady};
+ghost use Rattle.rng_expected.specs.Tags.{IsTag, no_tag};
+ghost use Rattle.rng_expected.specs.plain.Leaves.{IsLeafAt};
+ghost use Rattle.rng_expected.specs.plain.TagLeaves.{AreBodiesOf, AreClassesOf, IsBody, IsClass, IsClassOf};
+ghost use Rattle.rng_expected.specs.views.Next.{tag_of};
+
+use crate::leaves::{Standing, leaves};
+use crate::needs::needed_of;
+use rng_deriv_table::{Pattern, PatternNumber, PatternTable};
+use rng_deriv_ways::{Context, number_at};
+use rng_model::{Name, NameClass, OutOfMemory, Simple, SimpleGrammar};
+use rng_names::contains;
+use std::alloc::Global;
+
+/// What the tag of an element may have.
+///
+/// RELAX NG Specification, sections 6.2.7 and 6.2.8. A class is listed once for each attribute pattern of the schema's
+/// simple form that has it, so it may be listed several times.
+#[derive(Drop)]
+pub struct ExpectedTag<'a> {
+    /// The name classes of the attributes that the tag may have.
+    pub attributes: Vec<&'a NameClass>,
+    /// The names without which it matches no element pattern. Each is the only name of one of the classes.
+    pub required: Vec<&'a Name>,
+}
+
+impl<'a> ExpectedTag<'a> {
+    /// Returns that the tag may have nothing. Allocates nothing.
+    pub fn nothing(alloc: Global) -> Self
+        ensures { tag_of result ≡ no_tag }
+    {
+        ExpectedTag {
+            attributes: Vec::new(alloc),
+            required: Vec::new(alloc),
+        }
+    }
+}
+
+/// Returns what the tag of an element of this name may have, by the alternatives for what remains of the element around
+/// it.
+///
+/// RELAX NG Specification, sections 6.2.7 and 6.2.8. It is stated on what is left of the pattern: an attribute counts where
+/// its pattern is in the body of an element that may start and may have the name, whether or not a value matches it. Fails
+/// only when out of memory. Memory is linear in the number of patterns of the table, and so is the time for each name
+/// that is the only one of a class.
+pub fn expected_tag<'a>(
+    context: &Context<'a>,
+    table: &PatternTable,
+    alternatives: &[PatternNumber],
+    name: &Name,
+) -> Result<ExpectedTag<'a>, OutOfMemory>
+    requires inside { All (λ n. n.0 < length table.now) alternatives.now }
+    requires ready { IsReady context.now.grammar.now table.now context.now.numbers.now }
+    ensures { IfOk result (λ tag. IsTag (reading_of context.now.grammar.now)
+        (map (λ n. tree_of context.now.grammar.now table.now n.0) alternatives.now) (name_of name.now) (tag_of tag)) }
+{
+    let starts = leaves(context.alloc, table, Standing::First, alternatives)?;
+    let bodies = bodies_of(context, table, starts.as_slice(), name)?;
+    let found = leaves(context.alloc, table, Standing::InTag, bodies.as_slice())?;
+    let attributes = classes_of(context, table, found.as_slice())?;
+    let required = needed_of(context, table, bodies.as_slice(), attributes.as_slice())?;
+    Ok(ExpectedTag {
+        attributes,
+        required,
+    })
+}
+
+/// Returns the bodies of the leaves that are elements which may have the name.
+fn bodies_of(
+    context: &Context<'_>,
+    table: &PatternTable,
+    starts: &[PatternNumber],
+    name: &Name,
+) -> Result<Vec<PatternNumber>, OutOfMemory>
+    requires ready { IsReady context.now.grammar.now table.now context.now.numbers.now }
+    requires starts { All (IsLeafAt Standing.First table.now) starts.now }
+    ensures { IfOk result (λ bodies. AreBodiesOf context.now.grammar.now table.now (name_of name.now) starts.now bodies.items) }
+{
+    let mut bodies = Vec::new(context.alloc);
+    'starts: for leaf in starts {
+        let Some(body) = body_of(context, table, *leaf, name) else {
+            continue;
+        };
+        bodies.push(body)?;
+    }
+    Ok(bodies)
+}
+
+/// Returns the body of a leaf, if it is an element that may have the name.
+fn body_of(
+    context: &Context<'_>,
+    table: &PatternTable,
+    leaf: PatternNumber,
+    name: &Name,
+) -> Option<PatternNumber>
+    requires ready { IsReady context.now.grammar.now table.now context.now.numbers.now }
+    requires leaf { IsLeafAt Standing.First table.now leaf }
+    ensures { IsBody context.now.grammar.now table.now (name_of name.now) leaf result }
+{
+    let Pattern::Element(element) = table.pattern(leaf) else {
+        return None;
+    };
+    let Some((class, body)) = context.grammar.element(*element) else {
+        return None;
+    };
+    if !contains(class, name) {
+        return None;
+    }
+    Some(number_at(context.numbers, *body))
+}
+
+/// Returns the name classes of the leaves, which are attributes.
+fn classes_of<'a>(
+    context: &Context<'a>,
+    table: &PatternTable,
+    attributes: &[PatternNumber],
+) -> Result<Vec<&'a NameClass>, OutOfMemory>
+    requires grammar { IsTable context.now.grammar.now }
+    requires attributes { All (IsLeafAt Standing.InTag table.now) attributes.now }
+    ensures paired { IfOk result (λ classes. All (λ c. IsPaired c.now) classes.items) }
+    ensures classes { IfOk result (λ classes. AreClassesOf context.now.grammar.now table.now attributes.now (map (λ c. class_of c.now) classes.items)) }
+{
+    let mut classes = Vec::new(context.alloc);
+    'attributes: for leaf in attributes {
+        let Some(class) = class_at(context.grammar, table, *leaf) else {
+            continue;
+        };
+        classes.push(class)?;
+    }
+    Ok(classes)
+}
+
+/// Returns the name class of a leaf, which is an attribute.
+fn class_at<'a>(
+    grammar: &'a SimpleGrammar,
+    table: &PatternTable,
+    leaf: PatternNumber,
+) -> Option<&'a NameClass>
+    requires grammar { IsTable grammar.now }
+    requires leaf { IsLeafAt Standing.InTag table.now leaf }
+    ensures paired { IfSome result (λ c. IsPaired c.now) }
+    ensures class { IsClass grammar.now table.now leaf (option_map (λ c. class_of c.now) result) }
+{
+    let Pattern::Attribute(position) = table.pattern(leaf) else {
+        return None;
+    };
+    class_in(grammar.pattern(*position)?)
+}
+
+/// Returns the name class of a pattern, if it is an attribute.
+fn class_in(pattern: &Simple) -> Option<&NameClass>
+    ensures paired { IsClassPaired pattern.now → IfSome result (λ c. IsPaired c.now) }
+    ensures class { (t : Table) → IsClassOf (attribute_found t (Some pattern.now)) (option_map (λ c. class_of c.now) result) }
+{
+    match pattern {
+        Simple::Attribute(class, _) => Some(class.as_ref()),
+        _ => None,
+    }
+}
