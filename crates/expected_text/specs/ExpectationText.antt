@@ -1,8 +1,10 @@
--- The text of what may come next (RELAX NG Specification, section 6.2): lines of fields with a space between.
+-- The text of what may come next, and of what a tag may have (RELAX NG Specification, section 6.2): lines of fields with a
+-- space between.
 use Rattle.std.specs.Prelude.{ℕ, Bool, true, false, ◌==◌, if◌then◌else◌, List, [], ◌∷◌, ◌++◌, codes, flat_map}
-use Rattle.rng_model.specs.names.Names.{NameClass, any_name, any_except, ns_name, ns_except, name_is, one_of, NameClasses, no_classes, class_and}
+use Rattle.rng_model.specs.names.Names.{Name, NameClass, any_name, any_except, ns_name, ns_except, name_is, one_of, NameClasses, no_classes, class_and}
 use Rattle.rng_model.specs.simple.Tree.{Datatype}
 use Rattle.rng_expected.specs.Expectations.{Next}
+use Rattle.rng_expected.specs.Tags.{Tag}
 
 -- ---- fields
 
@@ -43,8 +45,12 @@ abbrev mutual
 
 -- ---- lines
 
+-- a line with this word for each class
+abbrev pub class_lines : List ℕ → NameClass → List ℕ
+class_lines word c = flat_map (λ t. word ++ (t ++ 0xA ∷ [])) (class_texts c)
+
 abbrev pub element_lines : NameClass → List ℕ
-element_lines c = flat_map (λ t. codes "element " ++ (t ++ 0xA ∷ [])) (class_texts c)
+element_lines = class_lines (codes "element ")
 
 abbrev pub text_line : Bool → List ℕ
 text_line true = codes "text" ++ 0xA ∷ []
@@ -60,6 +66,15 @@ value_line v = codes "value " ++ (type_fields v.0 ++ (codes " " ++ (field v.1 ++
 -- without the parameters
 abbrev pub datatype_line : Datatype → List ℕ
 datatype_line d = codes "datatype " ++ (type_fields d ++ 0xA ∷ [])
+
+abbrev pub attribute_lines : NameClass → List ℕ
+attribute_lines = class_lines (codes "attribute ")
+
+abbrev pub required_line : Name → List ℕ
+required_line n = codes "required " ++ (in_braces n.ns ++ (field n.local ++ 0xA ∷ []))
+
+abbrev pub tag_text : Tag → List ℕ
+tag_text tag = flat_map attribute_lines tag.attributes ++ flat_map required_line tag.required
 
 abbrev pub expectation_text : Next → List ℕ
 expectation_text next =

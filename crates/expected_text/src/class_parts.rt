@@ -5,7 +5,7 @@ ghost use Rattle.std.specs.Prelude.{◌≡◌, ◌<◌, ◌+◌, ◌++◌, OnOk,
 ghost use Rattle.rng_model.specs.names.Names as names;
 ghost use Rattle.rng_model.specs.names.Names.{some_of};
 ghost use Rattle.rng_model.specs.names.NameViews.{class_of, name_of, namespace_bytes};
-ghost use Rattle.expected_text.specs.ExpectationText.{element_lines, in_braces};
+ghost use Rattle.expected_text.specs.ExpectationText.{in_braces};
 ghost use Rattle.expected_text.specs.plain.Parts.{back, class_weight, front, left_text, left_weight, members_weight, part_text, part_weight, text_at};
 ghost use Rattle.expected_text.specs.declared.parts.Place.TheVariants as places;
 
@@ -14,16 +14,17 @@ use crate::parts::{Part, Place};
 use rng_model::{Name, NameClass, Namespace, OutOfMemory};
 use std::alloc::Global;
 
-/// Writes a line for the class, or for each member of a choice.
-pub(crate) fn write_lines(
+/// Writes the class at its place, or each member of a choice.
+pub(crate) fn write_at(
     alloc: Global,
+    place: Place,
     class: &NameClass,
     text: &mut String,
 ) -> Result<(), OutOfMemory>
-    ensures { OnOk result (string_bytes text.new ≡ string_bytes text.old ++ element_lines (class_of class.now)) }
+    ensures { OnOk result (string_bytes text.new ≡ string_bytes text.old ++ text_at place (class_of class.now)) }
 {
     let mut left = Vec::new(alloc);
-    left.push(Part::Class(Place::Line, class))?;
+    left.push(Part::Class(place, class))?;
     'parts: while let Some(part) = left.pop() {
         write_part(part, &mut left, text)?;
     }

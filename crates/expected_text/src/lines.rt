@@ -6,8 +6,9 @@ ghost use Rattle.rng_model.specs.schema.Patterns.{without_parameters};
 ghost use Rattle.rng_expected.specs.views.Next.{next_of, value_of};
 ghost use Rattle.expected_text.specs.ExpectationText.{datatype_line, element_lines, expectation_text, field, text_line, type_fields, value_line};
 
-use crate::class_parts::write_lines;
+use crate::class_parts::write_at;
 use crate::fields::write_field;
+use crate::parts::Place;
 use rng_expected::Expected;
 use rng_model::{Datatype, DatatypeValue, NameClass, OutOfMemory};
 use std::alloc::Global;
@@ -42,7 +43,7 @@ fn write_elements(
     ensures { OnOk result (string_bytes text.new ≡ string_bytes text.old ++ flat_map element_lines (map (λ c. class_of c.now) elements.now)) }
 {
     'elements: for class in elements {
-        write_lines(alloc, class, text)?;
+        write_at(alloc, Place::Element, class, text)?;
     }
     Ok(())
 }

@@ -7,8 +7,10 @@ use rng_model::NameClass;
 /// Where a class is written.
 #[derive(Clone, Copy)]
 pub(crate) enum Place {
-    /// On a line of its own.
-    Line,
+    /// On a line of its own, as names of elements.
+    Element,
+    /// On a line of its own, as names of attributes.
+    Attribute,
     /// In an except, before a space.
     Except,
 }
@@ -19,7 +21,8 @@ impl Place {
         ensures { result.now ≡ front self }
     {
         match self {
-            Place::Line => "element ",
+            Place::Element => "element ",
+            Place::Attribute => "attribute ",
             Place::Except => "",
         }
     }
@@ -29,7 +32,7 @@ impl Place {
         ensures { result.now ≡ back self }
     {
         match self {
-            Place::Line => "\n",
+            Place::Element | Place::Attribute => "\n",
             Place::Except => " ",
         }
     }

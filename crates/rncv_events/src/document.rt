@@ -6,11 +6,12 @@ ghost use Rattle.rng_model.specs.declared.type_set.TypeSet.{TypeSet};
 ghost use Rattle.rng_model.specs.documents.PyxTrees.{Event, a_string, an_end};
 ghost use Rattle.rncv_model.specs.answers.Verdict.{IsUnknownIn};
 ghost use Rattle.rng_model.specs.matching.GrammarMatching.{reading_of};
-ghost use Rattle.rng_expected.specs.views.Next.{next_of};
-ghost use Rattle.rng_deriv.specs.views.Followers.{MayFollow};
+ghost use Rattle.rng_model.specs.names.NameViews.{name_of};
+ghost use Rattle.rng_expected.specs.views.Next.{next_of, tag_of};
+ghost use Rattle.rng_deriv.specs.views.Followers.{MayFollow, MayHave};
 ghost use Rattle.rncv_validator.specs.views.Validators.{JudgesWith};
 ghost use Rattle.element_events.specs.views.Kept.{UnlessOutOfMemory};
-ghost use Rattle.element_events.specs.views.Told.{call, start_told};
+ghost use Rattle.element_events.specs.views.Told.{call, name_told, start_told};
 ghost use Rattle.rncv_events.specs.Answers.{AreHopelessFrom, IsAnswer, IsResult, KnowsStarts};
 ghost use Rattle.rncv_events.specs.views.Told.{HasTaken, IsStuck, Takes, answer_by, failed_since};
 
@@ -18,8 +19,8 @@ use crate::settling::settle;
 use element_events::{Attribute, ElementEvents, EventFault, ExpandedName};
 use rncv_validator::Validator;
 use rng_deriv::{Matcher, MatcherState};
-use rng_expected::Expected;
-use rng_model::{OutOfMemory, Outcome, SimpleGrammar};
+use rng_expected::{Expected, ExpectedTag};
+use rng_model::{Name, Namespace, OutOfMemory, Outcome, SimpleGrammar};
 use std::alloc::Global;
 use std::marker::Model;
 use std::sync::Arc;
@@ -225,6 +226,26 @@ impl EventDocument {
         Ok(expected)
     }
 
+    /// Returns what the tag of a start of this name may have next, or could have had before the event after which no
+    /// continuation is valid, if `invalid_since` returns one.
+    ///
+    /// It is stated on what is left of the pattern, as `expected` is (`ExpectedTag`). Fails only when this call, or an
+    /// earlier one, is out of memory. Memory is linear in the number of patterns that the matcher keeps, and so is the time
+    /// for each name that is the only one of a class. RELAX NG Specification, sections 6.2.7 and 6.2.8.
+    pub fn expected_tag(&self, name: ExpandedName<'_>) -> Result<ExpectedTag<'_>, OutOfMemory>
+        ensures { IfOk result (λ tag. (calls : List Event) (taken : HasTaken self.now calls)
+            → MayHave (reading_of self.now.grammar) self.now.matching.progress (name_told name.entry) (tag_of tag) taken.events) }
+    {
+        let Some(state) = &self.state else {
+            return Err(OutOfMemory);
+        };
+        let name = name_of(self.alloc, name)?;
+        let Some(tag) = state.expected_tag(self.alloc, &self.grammar, &name)? else {
+            unreachable!();
+        };
+        Ok(tag)
+    }
+
     /// Ends the document, and returns whether it is valid, and the validator for the next document.
     ///
     /// Fails with `EventFault::NotWellFormed` exactly if the calls tell no document. Otherwise the outcome is `Valid`
@@ -259,6 +280,15 @@ impl EventDocument {
         let state = Some(matcher.into_state());
         (Validator::of_parts(grammar, state), answer)
     }
+}
+
+/// Returns a copy of a name.
+fn name_of(alloc: Global, name: ExpandedName<'_>) -> Result<Name, OutOfMemory>
+    ensures { IfOk result (λ copy. name_of copy ≡ name_told name.entry) }
+{
+    let local = String::from_str(alloc, name.local)?;
+    let ns = Namespace::new(alloc, name.namespace)?;
+    Ok(Name { ns, local })
 }
 
 /// Returns the answer at the end of a document, given how the calls ended and the outcome of the matcher.

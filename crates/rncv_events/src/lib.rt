@@ -10,5 +10,5 @@ mod settling;
 
 pub use document::EventDocument;
 pub use element_events::{Attribute, EventFault, ExpandedName};
-pub use rng_expected::Expected;
+pub use rng_expected::{Expected, ExpectedTag};
 pub use rng_model::Outcome;

@@ -1,7 +1,7 @@
 -- What may come next, by what is left.
 use Rattle.std.proofs.Common.{◌≡◌, ℕ, ◌<◌, List, [], ◌∷◌, All, length, map, refl, sym, ap, subst, Bool, true, false, Some, None}
 use Rattle.std.proofs.lemmas.List.Elements.{All-head, All-nil}
-use Rattle.rng_model.specs.simple.Table.{Table, grammar_of}
+use Rattle.rng_model.specs.simple.Table.{Table}
 use Rattle.rng_model.specs.simple.Tree.{Simple}
 use Rattle.rng_model.specs.documents.PyxTrees.{Event}
 use Rattle.rng_model.specs.matching.GrammarMatching.{Reading, reading_of}
@@ -16,8 +16,7 @@ use Rattle.rng_deriv_events.specs.views.Positions.{IsLost, LeadTo, LeadUp}
 use Rattle.rng_deriv_events.specs.declared.progress.Progress.{Progress}
 use Rattle.rng_deriv_events.specs.declared.progress.Progress.TheVariants as progress
 use Rattle.rng_deriv_events.proofs.MarkedLevels.{innermost_inside, innermost_leads}
-use Rattle.rng_expected.specs.Expectations.{IsExpected, Next}
-use Rattle.rng_deriv.specs.views.Followers.{MayFollow, MayFollowAll}
+use Rattle.rng_deriv.specs.views.Followers.{HaveLeft, LeaveSuch}
 use Rattle.rng_deriv.specs.views.Matchers.{IsStateBy, Knows, matching_in}
 use Rattle.rng_deriv.specs.views.Serving.{nodes_of, nodes_unless}
 use Rattle.rng_deriv.specs.views.Alternatives.{unless_lost}
@@ -42,23 +41,23 @@ pub left_trees : (t : Table) (lost : Bool) (ns : List Node) (now : List PatternN
 left_trees t true ns now all = ap (map (numbers.tree_of (trees t []))) (sym (none_inside t true ns now refl all))
 left_trees t false ns now all = refl
 
--- ---- what may come next
+-- ---- what is left
 
-module _ (g : Reading) (trees : List (Simple ℕ)) (l : LevelLeft) (next : Next)
-    (expected : IsExpected g.grammar (map (numbers.tree_of trees) l.now) next) where
-  follow_all : (es : List Event) → LeadTo g trees l es → MayFollowAll g next es
-  follow_all es lead = record {
+module _ (g : Reading) (trees : List (Simple ℕ)) (l : LevelLeft) (AreSo : List (Simple ℕ) → Type 0)
+    (are_so : AreSo (map (numbers.tree_of trees) l.now)) where
+  leave_such : (es : List Event) → LeadTo g trees l es → LeaveSuch g AreSo es
+  leave_such es lead = record {
     matcher = lead.matcher;
     settled = lead.settled;
     stands = lead.stands;
     settles = lead.settles;
-    expected = subst (λ now. IsExpected g.grammar now next) (sym lead.now) expected;
+    are_so = subst AreSo (sym lead.now) are_so;
   }
 
-  follow : (p : Progress) (es : List Event) → LeadUp g trees p l es → MayFollow g p next es
-  follow (progress.Going p line) es lead = follow_all es lead
-  follow (progress.Failed line left) es w = (w.fails, follow_all w.fails.before w.left)
-  follow progress.Lost es lead = tt
+  have_left : (p : Progress) (es : List Event) → LeadUp g trees p l es → HaveLeft g AreSo p es
+  have_left (progress.Going p line) es lead = leave_such es lead
+  have_left (progress.Failed line left) es w = (w.fails, leave_such w.fails.before w.left)
+  have_left progress.Lost es lead = tt
 
 module _ (t : Table) (s : MatcherState) (state : IsStateBy t s) (l : LevelLeft) (is : innermost_of s.progress ≡ Some l) where
   inside : All (IsInside (trees t (nodes_of s.learned.value))) l.now
@@ -67,13 +66,14 @@ module _ (t : Table) (s : MatcherState) (state : IsStateBy t s) (l : LevelLeft) 
   pub alternatives_there : All (λ n. n.0 < length s.learned.value.table) (unless_lost s.learned.value.lost l.now)
   alternatives_there = left_below t s.learned.value.lost s.learned.value.table l.now inside
 
-  pub may_follow : (next : Next)
-      → IsExpected (grammar_of t) (map (λ (n : PatternNumber). tree_of t s.learned.value.table n.0) (unless_lost s.learned.value.lost l.now)) next
-      → (es : List Event) → Knows (matching_in t s) es → MayFollow (reading_of t) s.progress next es
-  may_follow next expected es known =
+  -- what is so of the alternatives in the table is so of what the events leave
+  pub is_left : (AreSo : List (Simple ℕ) → Type 0)
+      → AreSo (map (λ (n : PatternNumber). tree_of t s.learned.value.table n.0) (unless_lost s.learned.value.lost l.now))
+      → (es : List Event) → Knows (matching_in t s) es → HaveLeft (reading_of t) AreSo s.progress es
+  is_left AreSo are_so es known =
       let at = trees t (nodes_of s.learned.value) in
-      follow (reading_of t) at l next
-      (subst (λ now. IsExpected (grammar_of t) now next) (left_trees t s.learned.value.lost s.learned.value.table l.now inside) expected) s.progress es
+      have_left (reading_of t) at l AreSo
+      (subst AreSo (left_trees t s.learned.value.lost s.learned.value.table l.now inside) are_so) s.progress es
       (innermost_leads (reading_of t) at s.progress l es is known)
 
 -- something is left unless a call ran out of memory

@@ -3,17 +3,19 @@ ghost use Rattle.std.specs.Prelude.{◌≡◌, ◌↔◌, List, IfOk, IfSome, No
 ghost use Rattle.rng_model.specs.simple.Table.{Table};
 ghost use Rattle.rng_model.specs.documents.PyxTrees as trees;
 ghost use Rattle.rng_model.specs.matching.GrammarMatching.{reading_of};
-ghost use Rattle.rng_expected.specs.views.Next.{next_of};
+ghost use Rattle.rng_model.specs.names.NameViews.{name_of};
+ghost use Rattle.rng_expected.specs.views.Next.{next_of, tag_of};
 ghost use Rattle.rng_deriv_events.specs.views.Positions.{failed_line};
 ghost use Rattle.rng_deriv.specs.views.Alternatives.{unless_lost};
-ghost use Rattle.rng_deriv.specs.views.Followers.{MayFollow};
+ghost use Rattle.rng_deriv.specs.views.Followers.{MayFollow, MayHave};
 ghost use Rattle.rng_deriv.specs.views.Matchers.{HasFailedAt, HasRunOut, IsStateBy, Knows, matching_in};
 
 use crate::learned::Learned;
 use rng_deriv_events::Progress;
 use rng_deriv_table::PatternNumber;
-use rng_expected::{Expected, expected};
-use rng_model::{OutOfMemory, SimpleGrammar};
+use rng_deriv_ways::Context;
+use rng_expected::{Expected, ExpectedTag, expected, expected_tag};
+use rng_model::{Name, OutOfMemory, SimpleGrammar};
 use std::alloc::Global;
 
 /// What a matcher keeps of a document, and what it has learned about a grammar, without the grammar.
@@ -74,5 +76,39 @@ impl MatcherState {
         let alternatives = unless_lost(learned.lost, left.alternatives);
         let expected = expected(alloc, grammar, &learned.table, alternatives)?;
         Ok(Some(expected))
+    }
+
+    /// Returns what the tag of a start of this name may have next, or could have had before the event after which no
+    /// continuation is valid. Returns `None` exactly if a call ran out of memory.
+    ///
+    /// It is stated on what is left of the pattern (`expected_tag`). After a string it is what may come behind that string;
+    /// a blank string counts as nothing. RELAX NG Specification, sections 6.2.7 and 6.2.8. Fails only when out of memory.
+    /// Costs what `expected_tag` costs.
+    pub fn expected_tag<'g>(
+        &'g self,
+        alloc: Global,
+        grammar: &'g SimpleGrammar,
+        name: &Name,
+    ) -> Result<Option<ExpectedTag<'g>>, OutOfMemory>
+        requires { IsStateBy grammar.now self.now }
+        ensures tag { IfOk result (λ o. IfSome o (λ tag. (es : List trees.Event) → Knows (matching_in grammar.now self.now) es
+            → MayHave (reading_of grammar.now) self.now.progress (name_of name.now) (tag_of tag) es)) }
+        ensures none { IfOk result (λ o. (o ≡ None) ↔ HasRunOut (matching_in grammar.now self.now)) }
+    {
+        let Some(left) = self.progress.innermost() else {
+            return Ok(None);
+        };
+        let learned = &*self.learned;
+        if learned.lost {
+            return Ok(Some(ExpectedTag::nothing(alloc)));
+        }
+        let context = Context {
+            alloc,
+            grammar,
+            keys: &learned.keys,
+            numbers: learned.numbers.as_slice(),
+        };
+        let tag = expected_tag(&context, &learned.table, left.alternatives, name)?;
+        Ok(Some(tag))
     }
 }

@@ -14,11 +14,13 @@ use Rattle.expected_text.specs.declared.parts.Place.TheVariants as places
 -- ---- texts
 
 abbrev pub front : Place → List ℕ
-front places.Line = codes "element "
+front places.Element = codes "element "
+front places.Attribute = codes "attribute "
 front places.Except = []
 
 abbrev pub back : Place → List ℕ
-back places.Line = 0xA ∷ []
+back places.Element = 0xA ∷ []
+back places.Attribute = 0xA ∷ []
 back places.Except = codes " "
 
 -- the text of a class at its place

@@ -9,7 +9,7 @@ use Rattle.rng_expected.specs.Expectations.{IsExpected}
 use Rattle.rng_expected.specs.views.Next.{next_of}
 use Rattle.rng_deriv.specs.views.Alternatives.{unless_lost}
 use Rattle.rng_deriv.specs.declared.learned.Learned.{Learned}
-use Rattle.rng_deriv.proofs.FollowingEvents.{alternatives_there, may_follow}
+use Rattle.rng_deriv.proofs.FollowingEvents.{alternatives_there, is_left}
 use Rattle.rng_deriv.proofs.matcher_state.MatcherState.expected.Goals as goal
 
 pub expected-requires : goal.expected-requires
@@ -35,7 +35,7 @@ returns-clause-expected c =
     ∙ ap (option_map (λ (i : Innermost). level_left i.alternatives.now i.has_begun i.has_string i.is_open)) c.in-Some.is in
     let same = c.unless_lost-alternatives.ensures ∙ ap (λ (n : Learned). unless_lost n.lost left.now) c.deref-learned.ensures in
     let next = next_of c.in_ok-expected.expected in
-    may_follow t s c.requires left is next
+    is_left t s c.requires left is (λ now. IsExpected (grammar_of t) now next)
     (subst (λ now. IsExpected (grammar_of t) (map (λ (p : PatternNumber). tree_of t s.learned.value.table p.0) now) next) same
     (subst (λ (n : Learned). IsExpected (grammar_of t) (map (λ (p : PatternNumber). tree_of t n.table p.0) c.unless_lost-alternatives.result.now) next)
     c.deref-learned.ensures c.in_ok-expected.ensures))

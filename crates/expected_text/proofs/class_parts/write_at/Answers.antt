@@ -1,7 +1,7 @@
 use Rattle.std.proofs.Common.{◌≡◌, ◌+◌, ◌++◌, ap, arith, length, rules, string_bytes}
 use Rattle.expected_text.specs.plain.Parts.{left_weight, part_weight}
 use Rattle.expected_text.proofs.ClassParts.{all_written, first_put, one_written, weight_put}
-use Rattle.expected_text.proofs.class_parts.write_lines.Goals as goal
+use Rattle.expected_text.proofs.class_parts.write_at.Goals as goal
 
 pub parts-init : goal.parts-init
 parts-init c = ap (λ w. string_bytes c.args.text.now ++ w) (first_put _ _ _ c.new-left.ensures.items c.in_ok-push.ensures.items)
