@@ -1,12 +1,12 @@
 // Characters of names and texts.
-ghost use Rattle.std.specs.Prelude.{◌≡◌, map};
+ghost use Rattle.std.specs.Prelude.{◌≡◌};
 ghost use Rattle.std.specs.List.{list_all};
 ghost use Rattle.rng_model.specs.datatypes.Texts.{is_blank};
-ghost use Rattle.rng_model.specs.documents.Telling.{are_xml_chars, is_good_attribute, is_good_name};
+ghost use Rattle.rng_model.specs.documents.Telling.{are_xml_chars, is_good_name};
 ghost use Rattle.element_events.specs.plain.AsciiChars.{flaw, is_ascii_char};
-ghost use Rattle.element_events.specs.views.Told.{attribute_told, name_told};
+ghost use Rattle.element_events.specs.views.Told.{name_told};
 
-use crate::names::{Attribute, ExpandedName};
+use crate::names::ExpandedName;
 use rng_model::{is_ncname, is_xml_char};
 
 /// Returns 1 for a byte that is no ASCII character of XML.
@@ -45,24 +45,6 @@ pub fn is_good_name(name: ExpandedName<'_>) -> bool
     ensures { result ≡ is_good_name (name_told name.entry) }
 {
     are_xml_chars(name.namespace) && is_ncname(name.local)
-}
-
-fn is_good_attribute(attribute: Attribute<'_>) -> bool
-    ensures { result ≡ is_good_attribute (attribute_told attribute.entry) }
-{
-    is_good_name(attribute.name) && are_xml_chars(attribute.value)
-}
-
-/// Returns whether each attribute has a good name, and a value of characters of XML alone.
-pub fn are_good_attributes(attributes: &[Attribute<'_>]) -> bool
-    ensures { result ≡ list_all is_good_attribute (map attribute_told attributes.now) }
-{
-    'attributes: for attribute in attributes {
-        if !is_good_attribute(*attribute) {
-            return false;
-        }
-    }
-    true
 }
 
 /// Returns whether a text has only spaces, tabs and line ends.

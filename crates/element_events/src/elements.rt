@@ -19,7 +19,8 @@ use std::marker::Model;
 /// follows it. Texts that follow each other are one string, and an empty one is none. Where no element is open, white
 /// space is passed over. There is no limit but memory on how deep elements nest, how many attributes a tag has and how
 /// long a text is. More than 2^64 - 1 open elements count as out of memory. Only the text that is joined, the number of
-/// open elements and buffers are kept. The buffers are those of the last tag and the longest text, and some for names.
+/// open elements, up to 255 names and buffers are kept. The buffers are those of the last tag and the longest text, and
+/// some for names.
 ///
 /// A call fails with `EventFault::NotWellFormed` exactly if no document begins with the calls so far: characters are
 /// those of XML, local names are NCNames, the attributes of a tag have distinct expanded names, ends match starts, and
@@ -55,8 +56,8 @@ impl ElementEvents {
     ///
     /// Fails with `EventFault::NotWellFormed` exactly if no document begins with the calls so far, or with
     /// `EventFault::Memory`. Costs one pass over the names and values, and one look-up by hashing for each of more than
-    /// 16 attributes. Takes memory only for those look-ups, and where a name, a value or a namespace does not fit the
-    /// buffers that are there. RELAX NG Specification, section 2.
+    /// 16 attributes. Takes memory only for those look-ups, for a name that was not told lately, and where a name, a value
+    /// or a namespace does not fit the buffers that are there. RELAX NG Specification, section 2.
     pub fn start<E: Events>(
         &mut self,
         place: u64,

@@ -7,6 +7,8 @@
 mod characters;
 mod elements;
 mod fault;
+mod good_name;
+mod known;
 mod names;
 mod namespaces;
 mod repeats;

@@ -4,10 +4,11 @@ ghost use Rattle.rng_model.specs.documents.EventViews.{Hands};
 ghost use Rattle.rng_model.specs.documents.PyxTrees.{a_string, an_end};
 ghost use Rattle.rng_model.specs.documents.Telling.{IsGood, string_at};
 ghost use Rattle.element_events.specs.plain.Calls.{nothing_taken};
-ghost use Rattle.element_events.specs.views.Told.{call, start_told};
+ghost use Rattle.element_events.specs.views.Known.{tag_name};
+ghost use Rattle.element_events.specs.views.Told.{call, name_told, start_told};
 ghost use Rattle.element_events.specs.views.Kept.{Takes, state_of};
 
-use crate::characters::{are_good_attributes, are_xml_chars, is_blank, is_good_name};
+use crate::characters::{are_xml_chars, is_blank};
 use crate::fault::EventFault;
 use crate::names::{Attribute, ExpandedName};
 use crate::repeats::are_distinct;
@@ -53,6 +54,7 @@ impl State {
     fn end_text<E: Events>(&mut self, place: u64, events: &mut E) -> Result<(), OutOfMemory>
         ensures text { OnOk result (Hands E.stands events.old events.new (string_at place (state_of self.old).text)) }
         ensures state { OnOk result (state_of self.new ≡ record (state_of self.old) { text = [] }) }
+        ensures name { OnOk result (tag_name self.new.tag ≡ tag_name self.old.tag) }
     {
         if !self.text.is_empty() {
             events.event(Event {
@@ -64,7 +66,7 @@ impl State {
         Ok(())
     }
 
-    /// Hands out the start of an element, which is the tag.
+    /// Hands out the start of an element, which is the tag, with these attributes.
     fn start_tag<E: Events>(
         &mut self,
         place: u64,
@@ -72,29 +74,32 @@ impl State {
         attributes: &[Attribute<'_>],
         events: &mut E,
     ) -> Result<(), OutOfMemory>
+        requires { tag_name self.old.tag ≡ name_told name }
         ensures start { OnOk result (Hands E.stands events.old events.new (call place (start_told name.entry attributes.now) ∷ [])) }
         ensures state { state_of self.new ≡ state_of self.old }
     {
-        self.tag.set(self.alloc, name, attributes)?;
-        let kind = EventKind::Start {
-            name: &self.tag.name,
-            attrs: self.tag.attrs.as_slice(),
-        };
+        self.tag.set_attributes(self.alloc, attributes)?;
+        let kind = self.tag.start();
         events.event(Event { line: place, kind })
     }
 
-    /// Returns whether a tag may be in a document.
+    /// Returns whether a tag may be in a document. Then its name is that of the tag.
     fn is_good_tag(
-        &self,
+        &mut self,
         name: ExpandedName<'_>,
         attributes: &[Attribute<'_>],
     ) -> Result<bool, OutOfMemory>
-        ensures { IfOk result (λ b. (b ≡ true) ↔ IsGood (start_told name.entry attributes.now)) }
+        ensures good { IfOk result (λ b. (b ≡ true) ↔ IsGood (start_told name.entry attributes.now)) }
+        ensures name { IfOk result (λ b. b ≡ true → tag_name self.new.tag ≡ name_told name.entry) }
+        ensures state { state_of self.new ≡ state_of self.old }
     {
-        if !is_good_name(name) || !are_good_attributes(attributes) {
+        if !self.tag.are_good_attributes(self.alloc, attributes) {
             return Ok(false);
         }
-        are_distinct(self.alloc, attributes)
+        if !are_distinct(self.alloc, attributes)? {
+            return Ok(false);
+        }
+        self.tag.set_name(self.alloc, name)
     }
 
     /// Takes the start of an element.
@@ -108,7 +113,10 @@ impl State {
         ensures { Takes result (call place (start_told name.entry attributes.now)) (state_of self.old) (state_of self.new)
             (Hands E.stands events.old events.new) }
     {
-        if self.is_whole() || !self.is_good_tag(name, attributes)? {
+        if self.is_whole() {
+            return Err(EventFault::NotWellFormed);
+        }
+        if !self.is_good_tag(name, attributes)? {
             return Err(EventFault::NotWellFormed);
         }
         let Some(depth) = self.depth.checked_add(1) else {

@@ -1,55 +1,128 @@
 // The tag that is handed out.
-ghost use Rattle.std.specs.Prelude.{◌≡◌, [], map, IfOk, OnOk};
+ghost use Rattle.std.specs.Prelude.{◌≡◌, [], map, IfOk, None, OnOk, true};
+ghost use Rattle.std.specs.List.{list_all};
 ghost use Rattle.rng_model.specs.names.NameViews.{name_of};
-ghost use Rattle.rng_model.specs.documents.EventViews.{attribute_of};
+ghost use Rattle.rng_model.specs.documents.EventViews.{attribute_of, event_kind_of};
+ghost use Rattle.rng_model.specs.documents.PyxTrees.{a_start};
+ghost use Rattle.rng_model.specs.documents.Telling.{is_good_attribute, is_good_name};
+ghost use Rattle.element_events.specs.views.Known.{tag_name};
 ghost use Rattle.element_events.specs.views.Told.{attribute_told, name_told};
 
+use crate::characters::{are_xml_chars, is_good_name};
+use crate::known::KnownNames;
 use crate::names::{Attribute, ExpandedName};
 use crate::namespaces::Namespaces;
 use crate::spares::Spares;
-use rng_model::{Attr, Name, Namespace, OutOfMemory};
+use rng_model::{Attr, EventKind, Name, Namespace, OutOfMemory};
 use std::alloc::Global;
 
-/// The name and the attributes of the last tag, and buffers for the next one.
+/// The name and the attributes of the last tag, and names and buffers for the next one.
 #[derive(Drop)]
 pub struct Tag {
-    pub name: Name,
-    pub attrs: Vec<Attr>,
+    /// The place of the name among those that are known. If there is none, the name is the tag's own.
+    place: Option<usize>,
+    own: Name,
+    attrs: Vec<Attr>,
     spares: Spares,
     namespaces: Namespaces,
+    known: KnownNames,
 }
 
 impl Tag {
     /// Creates a value without attributes. Allocates nothing.
     pub fn new(alloc: Global) -> Self {
         Tag {
-            name: Name {
+            place: None,
+            own: Name {
                 ns: Namespace::none(),
                 local: String::new(alloc),
             },
             attrs: Vec::new(alloc),
             spares: Spares::new(alloc),
             namespaces: Namespaces::new(alloc),
+            known: KnownNames::new(alloc),
         }
     }
 
-    /// Replaces the name of the element.
-    fn set_name(&mut self, alloc: Global, name: ExpandedName<'_>) -> Result<(), OutOfMemory>
-        ensures name { OnOk result (name_of self.new.name ≡ name_told name.entry) }
-        ensures attributes { self.new.attrs.items ≡ self.old.attrs.items }
+    /// Returns the start of an element that has this tag.
+    pub fn start(&self) -> EventKind<'_>
+        ensures { event_kind_of result ≡ a_start (tag_name self.now) (map attribute_of self.now.attrs.items) }
     {
-        if self.name.ns.as_str() != name.namespace {
-            self.name.ns = self.namespaces.namespace(alloc, name.namespace)?;
+        EventKind::Start {
+            name: self.known.name_or(self.place, &self.own),
+            attrs: self.attrs.as_slice(),
         }
-        self.name.local.clear();
-        self.name.local.push_str(name.local)?;
+    }
+
+    /// Replaces the name of the element by a copy of this one.
+    fn set_own_name(&mut self, alloc: Global, name: ExpandedName<'_>) -> Result<(), OutOfMemory>
+        ensures place { self.new.place ≡ None }
+        ensures name { OnOk result (name_of self.new.own ≡ name_told name.entry) }
+    {
+        self.place = None;
+        if self.own.ns.as_str() != name.namespace {
+            self.own.ns = self.namespaces.namespace(alloc, name.namespace)?;
+        }
+        self.own.local.clear();
+        self.own.local.push_str(name.local)?;
         Ok(())
+    }
+
+    /// Replaces the name of the element if the name is good, and returns whether it is. A name that was told lately is
+    /// neither checked nor copied.
+    pub fn set_name(&mut self, alloc: Global, name: ExpandedName<'_>) -> Result<bool, OutOfMemory>
+        ensures good { IfOk result (λ good. good ≡ is_good_name (name_told name.entry)) }
+        ensures name { IfOk result (λ good. good ≡ true → tag_name self.new ≡ name_told name.entry) }
+    {
+        if let Some(place) = self.known.find(name) {
+            self.place = Some(place);
+            return Ok(true);
+        }
+        if !is_good_name(name) {
+            return Ok(false);
+        }
+        self.set_own_name(alloc, name)?;
+        self.known.learn(alloc, &mut self.namespaces, name);
+        Ok(true)
+    }
+
+    /// Returns whether a name is good. A name that was told lately is not checked.
+    fn is_good_name(&mut self, alloc: Global, name: ExpandedName<'_>) -> bool
+        ensures { result ≡ is_good_name (name_told name.entry) }
+    {
+        if self.known.find(name).is_some() {
+            return true;
+        }
+        if !is_good_name(name) {
+            return false;
+        }
+        self.known.learn(alloc, &mut self.namespaces, name);
+        true
+    }
+
+    fn is_good_attribute(&mut self, alloc: Global, attribute: Attribute<'_>) -> bool
+        ensures { result ≡ is_good_attribute (attribute_told attribute.entry) }
+    {
+        self.is_good_name(alloc, attribute.name) && are_xml_chars(attribute.value)
+    }
+
+    /// Returns whether each attribute has a good name, and a value of characters of XML alone. The name of the element is
+    /// lost.
+    pub fn are_good_attributes(&mut self, alloc: Global, attributes: &[Attribute<'_>]) -> bool
+        ensures { result ≡ list_all is_good_attribute (map attribute_told attributes.now) }
+    {
+        'attributes: for attribute in attributes {
+            if !self.is_good_attribute(alloc, *attribute) {
+                return false;
+            }
+        }
+        true
     }
 
     /// Returns a copy of an attribute.
     fn attribute(&mut self, alloc: Global, attribute: Attribute<'_>) -> Result<Attr, OutOfMemory>
         ensures attribute { IfOk result (λ a. attribute_of a ≡ attribute_told attribute.entry) }
-        ensures name { name_of self.new.name ≡ name_of self.old.name }
+        ensures name { tag_name self.new ≡ tag_name self.old }
         ensures attributes { self.new.attrs.items ≡ self.old.attrs.items }
     {
         let name = Name {
@@ -62,19 +135,17 @@ impl Tag {
         })
     }
 
-    /// Makes this the tag of a name and attributes. A tag whose names and values are short, and whose namespaces were
-    /// told lately, takes no memory once there are buffers.
-    pub fn set(
+    /// Replaces the attributes by copies of these. If their names and values are short, and their namespaces were told
+    /// lately, it takes no memory once there are buffers.
+    pub fn set_attributes(
         &mut self,
         alloc: Global,
-        name: ExpandedName<'_>,
         attributes: &[Attribute<'_>],
     ) -> Result<(), OutOfMemory>
-        ensures name { OnOk result (name_of self.new.name ≡ name_told name.entry) }
+        ensures name { OnOk result (tag_name self.new ≡ tag_name self.old) }
         ensures attributes { OnOk result (map attribute_of self.new.attrs.items ≡ map attribute_told attributes.now) }
     {
         self.spares.keep_all(&mut self.attrs);
-        self.set_name(alloc, name)?;
         'attributes: for attribute in attributes {
             let attr = self.attribute(alloc, *attribute)?;
             self.attrs.push(attr)?;

@@ -4,7 +4,7 @@ use Rattle.std.proofs.lemmas.List.{take_all}
 use Rattle.std.proofs.lemmas.List.Folds.{list_all-map, list_all_at}
 use Rattle.rng_model.specs.documents.Telling.{is_good_attribute}
 use Rattle.element_events.specs.views.Told.{attribute_told}
-use Rattle.element_events.proofs.characters.are_good_attributes.Goals as goal
+use Rattle.element_events.proofs.tag.Tag.are_good_attributes.Goals as goal
 
 pub returns-then-not-is_good_attribute : goal.returns-then-not-is_good_attribute
 returns-then-not-is_good_attribute c =
