@@ -73,7 +73,7 @@ pub fn text_attributes<'a>(
     ensures texts { OnOk result (All IsTextAttribute attributes.now) }
     ensures fault { IsErrOf result EventFault.NotWellFormed → ¬ (All IsTextAttribute attributes.now) }
 {
-    let mut told = Vec::new(alloc);
+    let mut told = Vec::with_capacity(alloc, attributes.len())?;
     for attribute in attributes {
         match text_attribute(*attribute) {
             Ok(attribute) => told.push(attribute)?,
