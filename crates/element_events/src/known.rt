@@ -1,5 +1,5 @@
 // Names that were told lately.
-ghost use Rattle.std.specs.Prelude.{◌≡◌, ◌<◌, IfOk, IfSome, OnSome, option_copied, slice_get, true};
+ghost use Rattle.std.specs.Prelude.{◌≡◌, ◌<◌, IfSome, OnSome, option_copied, slice_get, true};
 ghost use Rattle.rng_model.specs.documents.Telling.{is_good_name};
 ghost use Rattle.rng_model.specs.names.NameViews.{name_of};
 ghost use Rattle.element_events.specs.views.Known.{IsAt, name_at};
@@ -7,9 +7,9 @@ ghost use Rattle.element_events.specs.views.Told.{name_told};
 
 use crate::good_name::GoodName;
 use crate::names::ExpandedName;
-use crate::namespaces::Namespaces;
 use rng_model::{Name, OutOfMemory};
 use std::alloc::Global;
+use std::mem::replace;
 
 /// The most names that are kept, and the most bytes that each part of one may have.
 const COUNT_LIMIT: usize = 255;
@@ -54,18 +54,9 @@ fn get(names: &[GoodName], place: usize) -> Option<&GoodName>
     names.get(place)
 }
 
-/// Returns a copy of a name.
-fn copied(
-    alloc: Global,
-    namespaces: &mut Namespaces,
-    name: ExpandedName<'_>,
-) -> Result<Name, OutOfMemory>
-    ensures { IfOk result (λ copy. name_of copy ≡ name_told name.entry) }
-{
-    Ok(Name {
-        ns: namespaces.namespace(alloc, name.namespace)?,
-        local: String::from_str(alloc, name.local)?,
-    })
+/// Returns whether a name is short enough to be kept.
+pub fn is_short(name: ExpandedName<'_>) -> bool {
+    name.local.len() <= SIZE_LIMIT && name.namespace.len() <= SIZE_LIMIT
 }
 
 impl KnownNames {
@@ -100,43 +91,33 @@ impl KnownNames {
         }
     }
 
-    /// Keeps a copy of a good name for reuse, in place of the one in its slot. A name that is too long is not kept, and
-    /// none is when out of memory.
-    pub fn learn(&mut self, alloc: Global, namespaces: &mut Namespaces, name: ExpandedName<'_>)
-        requires { is_good_name (name_told name) ≡ true }
+    /// Keeps a copy of a good name for reuse. Returns the name that it replaces, which was in its slot, if there is one.
+    pub fn keep(&mut self, name: ExpandedName<'_>, copy: Name) -> Result<Option<Name>, OutOfMemory>
+        requires { is_good_name (name_of copy) ≡ true }
     {
-        if name.local.len() > SIZE_LIMIT || name.namespace.len() > SIZE_LIMIT {
-            return;
-        }
-        if let Ok(copy) = copied(alloc, namespaces, name) {
-            self.keep(slot_of(name), GoodName { name: copy });
-        }
-    }
-
-    /// Keeps a name in a slot.
-    fn keep(&mut self, slot: usize, name: GoodName)
-        requires { slot < 256 }
-    {
+        let slot = slot_of(name);
         match usize::from(self.places[slot]).checked_sub(1) {
-            Some(place) => self.replace(place, name),
-            None => self.add(slot, name),
+            Some(place) => Ok(self.replace(place, GoodName { name: copy })),
+            None => self.add(slot, GoodName { name: copy }),
         }
     }
 
-    /// Replaces the name at a place.
-    fn replace(&mut self, place: usize, name: GoodName) {
-        if let Some(known) = self.names.get_mut(place) {
-            *known = name;
-        }
+    /// Replaces the name at a place, and returns it.
+    fn replace(&mut self, place: usize, name: GoodName) -> Option<Name> {
+        let known = self.names.get_mut(place)?;
+        let GoodName { name } = replace(known, name);
+        Some(name)
     }
 
-    /// Adds a name in a slot without one.
-    fn add(&mut self, slot: usize, name: GoodName)
+    /// Adds a name in a slot without one, if there are not too many.
+    fn add(&mut self, slot: usize, name: GoodName) -> Result<Option<Name>, OutOfMemory>
         requires { slot < 256 }
     {
         let count = self.names.len();
-        if count < COUNT_LIMIT && self.names.push(name).is_ok() {
+        if count < COUNT_LIMIT {
+            self.names.push(name)?;
             self.places[slot] = (count + 1) as u8;
         }
+        Ok(None)
     }
 }

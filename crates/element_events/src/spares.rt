@@ -37,7 +37,7 @@ impl Spares {
     }
 
     /// Keeps a buffer for reuse, unless it has no capacity, is too large or there are enough.
-    fn keep(&mut self, text: String) {
+    pub fn keep(&mut self, text: String) {
         let size = text.capacity();
         if self.texts.len() < COUNT_LIMIT && 0 < size && size <= SIZE_LIMIT {
             let _ = self.texts.push(text);

@@ -93,7 +93,7 @@ impl State {
         ensures name { IfOk result (λ b. b ≡ true → tag_name self.new.tag ≡ name_told name.entry) }
         ensures state { state_of self.new ≡ state_of self.old }
     {
-        if !self.tag.are_good_attributes(self.alloc, attributes) {
+        if !self.tag.are_good_attributes(self.alloc, attributes)? {
             return Ok(false);
         }
         if !are_distinct(self.alloc, attributes)? {

@@ -9,7 +9,7 @@ ghost use Rattle.element_events.specs.views.Known.{tag_name};
 ghost use Rattle.element_events.specs.views.Told.{attribute_told, name_told};
 
 use crate::characters::{are_xml_chars, is_good_name};
-use crate::known::KnownNames;
+use crate::known::{KnownNames, is_short};
 use crate::names::{Attribute, ExpandedName};
 use crate::namespaces::Namespaces;
 use crate::spares::Spares;
@@ -68,6 +68,32 @@ impl Tag {
         Ok(())
     }
 
+    /// Returns a copy of a name.
+    fn copied(&mut self, alloc: Global, name: ExpandedName<'_>) -> Result<Name, OutOfMemory>
+        ensures copy { IfOk result (λ copy. name_of copy ≡ name_told name.entry) }
+        ensures name { tag_name self.new ≡ tag_name self.old }
+        ensures attributes { self.new.attrs.items ≡ self.old.attrs.items }
+    {
+        Ok(Name {
+            ns: self.namespaces.namespace(alloc, name.namespace)?,
+            local: self.spares.copy(alloc, name.local)?,
+        })
+    }
+
+    /// Keeps a copy of a good name for reuse, unless it is too long. The name of the element is lost.
+    fn learn(&mut self, alloc: Global, name: ExpandedName<'_>) -> Result<(), OutOfMemory>
+        requires { is_good_name (name_told name) ≡ true }
+    {
+        if !is_short(name) {
+            return Ok(());
+        }
+        let copy = self.copied(alloc, name)?;
+        if let Some(replaced) = self.known.keep(name, copy)? {
+            self.spares.keep(replaced.local);
+        }
+        Ok(())
+    }
+
     /// Replaces the name of the element if the name is good, and returns whether it is. A name that was told lately is
     /// neither checked nor copied.
     pub fn set_name(&mut self, alloc: Global, name: ExpandedName<'_>) -> Result<bool, OutOfMemory>
@@ -81,42 +107,53 @@ impl Tag {
         if !is_good_name(name) {
             return Ok(false);
         }
+        self.learn(alloc, name)?;
         self.set_own_name(alloc, name)?;
-        self.known.learn(alloc, &mut self.namespaces, name);
         Ok(true)
     }
 
-    /// Returns whether a name is good. A name that was told lately is not checked.
-    fn is_good_name(&mut self, alloc: Global, name: ExpandedName<'_>) -> bool
-        ensures { result ≡ is_good_name (name_told name.entry) }
+    /// Returns whether a name is good. A name that was told lately is not checked. The name of the element is lost.
+    fn is_good_name(&mut self, alloc: Global, name: ExpandedName<'_>) -> Result<bool, OutOfMemory>
+        ensures { IfOk result (λ good. good ≡ is_good_name (name_told name.entry)) }
     {
         if self.known.find(name).is_some() {
-            return true;
+            return Ok(true);
         }
         if !is_good_name(name) {
-            return false;
+            return Ok(false);
         }
-        self.known.learn(alloc, &mut self.namespaces, name);
-        true
+        self.learn(alloc, name)?;
+        Ok(true)
     }
 
-    fn is_good_attribute(&mut self, alloc: Global, attribute: Attribute<'_>) -> bool
-        ensures { result ≡ is_good_attribute (attribute_told attribute.entry) }
+    fn is_good_attribute(
+        &mut self,
+        alloc: Global,
+        attribute: Attribute<'_>,
+    ) -> Result<bool, OutOfMemory>
+        ensures { IfOk result (λ good. good ≡ is_good_attribute (attribute_told attribute.entry)) }
     {
-        self.is_good_name(alloc, attribute.name) && are_xml_chars(attribute.value)
+        if !self.is_good_name(alloc, attribute.name)? {
+            return Ok(false);
+        }
+        Ok(are_xml_chars(attribute.value))
     }
 
     /// Returns whether each attribute has a good name, and a value of characters of XML alone. The name of the element is
     /// lost.
-    pub fn are_good_attributes(&mut self, alloc: Global, attributes: &[Attribute<'_>]) -> bool
-        ensures { result ≡ list_all is_good_attribute (map attribute_told attributes.now) }
+    pub fn are_good_attributes(
+        &mut self,
+        alloc: Global,
+        attributes: &[Attribute<'_>],
+    ) -> Result<bool, OutOfMemory>
+        ensures { IfOk result (λ good. good ≡ list_all is_good_attribute (map attribute_told attributes.now)) }
     {
         'attributes: for attribute in attributes {
-            if !self.is_good_attribute(alloc, *attribute) {
-                return false;
+            if !self.is_good_attribute(alloc, *attribute)? {
+                return Ok(false);
             }
         }
-        true
+        Ok(true)
     }
 
     /// Returns a copy of an attribute.
@@ -125,12 +162,8 @@ impl Tag {
         ensures name { tag_name self.new ≡ tag_name self.old }
         ensures attributes { self.new.attrs.items ≡ self.old.attrs.items }
     {
-        let name = Name {
-            ns: self.namespaces.namespace(alloc, attribute.name.namespace)?,
-            local: self.spares.copy(alloc, attribute.name.local)?,
-        };
         Ok(Attr {
-            name,
+            name: self.copied(alloc, attribute.name)?,
             value: self.spares.copy(alloc, attribute.value)?,
         })
     }

@@ -6,11 +6,11 @@ use Rattle.rng_model.specs.documents.Telling.{is_good_attribute}
 use Rattle.element_events.specs.views.Told.{attribute_told}
 use Rattle.element_events.proofs.tag.Tag.are_good_attributes.Goals as goal
 
-pub returns-then-not-is_good_attribute : goal.returns-then-not-is_good_attribute
-returns-then-not-is_good_attribute c =
+pub returns-then-not-branch : goal.returns-then-not-branch
+returns-then-not-branch c =
     sym (list_all-map is_good_attribute attribute_told c.args.attributes.now
     ∙ list_all_at (λ a. is_good_attribute (attribute_told a)) c.args.attributes.now c.attributes.attribute-index _ c.attributes-test.true
-    (sym c.is_good_attribute.ensures ∙ c.if-not-is_good_attribute.true))
+    (sym c.in_ok-is_good_attribute.ensures ∙ c.if-not-branch.true))
 
 pub returns : goal.returns
 returns c =
