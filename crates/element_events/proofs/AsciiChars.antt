@@ -1,14 +1,19 @@
--- A text of ASCII characters of XML has only characters of XML.
-use Rattle.std.proofs.Common.{◌≡◌, ℕ, ◌<◌, true, List, [], ◌∷◌, refl, ap, ◌∙◌, arith}
+-- A text of ASCII characters of XML has only characters of XML, and a name of ASCII characters is an NCName.
+use Rattle.std.proofs.Common.{◌≡◌, ℕ, ◌<◌, Bool, true, false, ◌&&◌, ◌||◌, not, List, [], ◌∷◌, refl, ap, sym, ◌∙◌, take, drop, arith}
 use Rattle.std.proofs.lemmas.Bool.{and_parts}
 use Rattle.std.proofs.lemmas.Bool.Decides.{nat_tests}
+use Rattle.std.proofs.lemmas.List.{take-append-drop}
+use Rattle.std.proofs.lemmas.List.Folds.{list_all-append}
+use Rattle.std.specs.Prelude.{nat_le}
 use Rattle.std.specs.List.{list_all}
 use Rattle.std.specs.Str.{IsAscii}
 use Rattle.std.proofs.lemmas.Str.{chars-IsAscii}
 use Rattle.std.proofs.lemmas.Str.Ascii.{IsAscii-nil, IsAscii-cons}
-use Rattle.rng_model.specs.names.Names.{is_xml_char}
+use Rattle.std.specs.Str.{chars}
+use Rattle.rng_model.proofs.Truths.{no_truth}
+use Rattle.rng_model.specs.names.Names.{is_xml_char, is_name_start, is_name_char, is_colon, is_ncname, is_in_ranges, name_start_ranges, more_name_ranges}
 use Rattle.rng_model.specs.documents.Telling.{are_xml_chars}
-use Rattle.element_events.specs.plain.AsciiChars.{is_ascii_char}
+use Rattle.element_events.specs.plain.AsciiChars.{is_ascii_char, is_ascii_start, is_ascii_part, is_ascii_name}
 
 char_of : (b : ℕ) → is_ascii_char b ≡ true → is_xml_char b ≡ true
 char_of b e = grind (arith, nat_tests)
@@ -26,3 +31,80 @@ all_chars (b ∷ bs) e = let p = and_parts (is_ascii_char b) (list_all is_ascii_
 
 pub ascii_chars : (bs : List ℕ) → list_all is_ascii_char bs ≡ true → are_xml_chars bs ≡ true
 ascii_chars bs e = ap (list_all is_xml_char) (chars-IsAscii bs (all_low bs e)) ∙ all_chars bs e
+
+both_parts : (n : ℕ) (bs : List ℕ) → list_all is_ascii_char bs ≡ (list_all is_ascii_char (take n bs) && list_all is_ascii_char (drop n bs))
+both_parts n bs = ap (list_all is_ascii_char) (sym (take-append-drop n bs)) ∙ list_all-append is_ascii_char (take n bs) (drop n bs)
+
+-- if all bytes in front are characters, the rest decides
+pub all_in_rest : (front rest bs : List ℕ) (n : ℕ) (x y : Bool) → front ≡ take n bs → rest ≡ drop n bs → x ≡ list_all is_ascii_char front → x ≡ true →
+    y ≡ list_all is_ascii_char rest → y ≡ list_all is_ascii_char bs
+all_in_rest front rest bs n x y f r e t s =
+    s ∙ ap (list_all is_ascii_char) r
+    ∙ sym (both_parts n bs ∙ ap (λ (b : Bool). b && list_all is_ascii_char (drop n bs)) (sym (ap (list_all is_ascii_char) f) ∙ sym e ∙ t))
+
+both_true : (a b : Bool) → a ≡ true → b ≡ true → (a && b) ≡ true
+both_true true b p q = q
+both_true false b p q = no_truth p
+
+-- more ranges, in front and behind
+wider_starts : (a b c d e : Bool) → (b || (c || (d || false))) ≡ true → (a || (b || (c || (d || e)))) ≡ true
+wider_starts true b c d e h = refl
+wider_starts false true c d e h = refl
+wider_starts false false true d e h = refl
+wider_starts false false false true e h = refl
+wider_starts false false false false e h = no_truth h
+
+wider_parts : (a b c : Bool) → (a || (b || false)) ≡ true → (a || (b || c)) ≡ true
+wider_parts true b c h = refl
+wider_parts false true c h = refl
+wider_parts false false c h = no_truth h
+
+either_wider : (a b c d : Bool) → (a ≡ true → c ≡ true) → (b ≡ true → d ≡ true) → (a || b) ≡ true → (c || d) ≡ true
+either_wider true b c d f g h = rw (f refl) refl
+either_wider false b true d f g h = refl
+either_wider false b false d f g h = g h
+
+abbrev within : ℕ → ℕ → ℕ → Bool
+within low high b = nat_le low b && nat_le b high
+
+name_start : (b : ℕ) → is_ascii_start b ≡ true → is_name_start b ≡ true
+name_start b e =
+    wider_starts (within 0x3A 0x3A b) (within 0x41 0x5A b) (within 0x5F 0x5F b) (within 0x61 0x7A b) (is_in_ranges (drop 4 name_start_ranges) b) e
+
+name_char : (b : ℕ) → is_ascii_part b ≡ true → is_name_char b ≡ true
+name_char b e =
+    either_wider (is_ascii_start b) (within 0x2D 0x2E b || (within 0x30 0x39 b || false)) (is_name_start b) (is_in_ranges more_name_ranges b) (name_start b)
+    (wider_parts (within 0x2D 0x2E b) (within 0x30 0x39 b) (is_in_ranges (drop 2 more_name_ranges) b)) e
+
+start_no_colon : (b : ℕ) → is_ascii_start b ≡ true → not (is_colon b) ≡ true
+start_no_colon b e = grind (arith, nat_tests)
+
+part_no_colon : (b : ℕ) → is_ascii_part b ≡ true → not (is_colon b) ≡ true
+part_no_colon b e = grind (arith, nat_tests)
+
+start_of : (b : ℕ) → is_ascii_start b ≡ true → (is_name_start b && not (is_colon b)) ≡ true
+start_of b e = both_true (is_name_start b) (not (is_colon b)) (name_start b e) (start_no_colon b e)
+
+part_of : (b : ℕ) → is_ascii_part b ≡ true → (is_name_char b && not (is_colon b)) ≡ true
+part_of b e = both_true (is_name_char b) (not (is_colon b)) (name_char b e) (part_no_colon b e)
+
+start_low : (b : ℕ) → is_ascii_start b ≡ true → b < 128
+start_low b e = grind (arith, nat_tests)
+
+part_low : (b : ℕ) → is_ascii_part b ≡ true → b < 128
+part_low b e = grind (arith, nat_tests)
+
+parts_low : (bs : List ℕ) → list_all is_ascii_part bs ≡ true → IsAscii bs
+parts_low [] e = IsAscii-nil
+parts_low (b ∷ bs) e = let p = and_parts (is_ascii_part b) (list_all is_ascii_part bs) e in IsAscii-cons b bs (part_low b p.0) (parts_low bs p.1)
+
+parts_of : (bs : List ℕ) → list_all is_ascii_part bs ≡ true → list_all (λ d. is_name_char d && not (is_colon d)) bs ≡ true
+parts_of [] e = refl
+parts_of (b ∷ bs) e = let p = and_parts (is_ascii_part b) (list_all is_ascii_part bs) e in rw (part_of b p.0, parts_of bs p.1) refl
+
+pub ascii_name : (bs : List ℕ) → is_ascii_name bs ≡ true → is_ncname (chars bs) ≡ true
+ascii_name [] e = no_truth e
+ascii_name (b ∷ bs) e =
+    let p = and_parts (is_ascii_start b) (list_all is_ascii_part bs) e in
+    ap is_ncname (chars-IsAscii (b ∷ bs) (IsAscii-cons b bs (start_low b p.0) (parts_low bs p.1)))
+    ∙ both_true (is_name_start b && not (is_colon b)) (list_all (λ d. is_name_char d && not (is_colon d)) bs) (start_of b p.0) (parts_of bs p.1)

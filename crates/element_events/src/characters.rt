@@ -1,23 +1,27 @@
 // Characters of names and texts.
 ghost use Rattle.std.specs.Prelude.{◌≡◌};
 ghost use Rattle.std.specs.List.{list_all};
+ghost use Rattle.std.specs.Str.{chars};
+ghost use Rattle.rng_model.specs.names.Names.{is_ncname};
 ghost use Rattle.rng_model.specs.datatypes.Texts.{is_blank};
 ghost use Rattle.rng_model.specs.documents.Telling.{are_xml_chars, is_good_name};
-ghost use Rattle.element_events.specs.plain.AsciiChars.{flaw, is_ascii_char};
+ghost use Rattle.element_events.specs.plain.AsciiChars.{flaw, is_ascii_char, is_ascii_name, is_ascii_part, is_ascii_start};
 ghost use Rattle.element_events.specs.views.Told.{name_told};
 
 use crate::names::ExpandedName;
 use rng_model::{is_ncname, is_xml_char};
 
+fn is_ascii_char(byte: u8) -> bool
+    ensures { result ≡ is_ascii_char byte }
+{
+    (byte >= 0x20 || byte == b'\t' || byte == b'\n' || byte == b'\r') && byte < 0x80
+}
+
 /// Returns 1 for a byte that is no ASCII character of XML.
 fn flaw(byte: u8) -> u8
     ensures { result ≡ flaw (is_ascii_char byte) }
 {
-    if (byte >= 0x20 || byte == b'\t' || byte == b'\n' || byte == b'\r') && byte < 0x80 {
-        0
-    } else {
-        1
-    }
+    if is_ascii_char(byte) { 0 } else { 1 }
 }
 
 /// Returns whether all bytes are ASCII characters of XML. It looks at all of them without an early exit, so many can be
@@ -32,19 +36,69 @@ fn are_ascii_chars(bytes: &[u8]) -> bool
     flaws == 0
 }
 
+/// Returns whether all bytes are ASCII characters of XML. It looks at one after another, which is quick for a few.
+fn are_few_ascii_chars(bytes: &[u8]) -> bool
+    ensures { result ≡ list_all is_ascii_char bytes.now }
+{
+    bytes.iter().all(|byte| is_ascii_char(*byte))
+}
+
+/// Returns whether all bytes are ASCII characters of XML. The last ones, which are no block of 8, are looked at one by one.
+fn is_ascii_text(bytes: &[u8]) -> bool
+    ensures { result ≡ list_all is_ascii_char bytes.now }
+{
+    let (blocks, rest) = bytes.split_at(bytes.len() - bytes.len() % 8);
+    are_ascii_chars(blocks) && are_few_ascii_chars(rest)
+}
+
 /// Returns whether each character may occur in an XML document.
 #[tactic(auto, using(crate::proofs::AsciiChars::ascii_chars))]
 pub fn are_xml_chars(text: &str) -> bool
     ensures { result ≡ are_xml_chars text.now }
 {
-    are_ascii_chars(text.as_bytes()) || text.chars().all(|c| is_xml_char(c))
+    is_ascii_text(text.as_bytes()) || text.chars().all(|c| is_xml_char(c))
+}
+
+fn is_ascii_start(byte: u8) -> bool
+    ensures { result ≡ is_ascii_start byte }
+{
+    matches!(byte, b'A'..=b'Z' | b'_' | b'a'..=b'z')
+}
+
+fn is_ascii_part(byte: u8) -> bool
+    ensures { result ≡ is_ascii_part byte }
+{
+    is_ascii_start(byte) || matches!(byte, b'-' | b'.' | b'0'..=b'9')
+}
+
+fn are_ascii_parts(bytes: &[u8]) -> bool
+    ensures { result ≡ list_all is_ascii_part bytes.now }
+{
+    bytes.iter().all(|byte| is_ascii_part(*byte))
+}
+
+/// Returns whether the bytes are a name of ASCII letters, digits, `_`, `-` and `.`.
+fn is_ascii_name(bytes: &[u8]) -> bool
+    ensures { result ≡ is_ascii_name bytes.now }
+{
+    match bytes {
+        [first, rest @ ..] => is_ascii_start(*first) && are_ascii_parts(rest),
+        [] => false,
+    }
+}
+
+/// Returns whether the text is an NCName.
+fn is_local_name(text: &str) -> bool
+    ensures { result ≡ is_ncname (chars text.now) }
+{
+    is_ascii_name(text.as_bytes()) || is_ncname(text)
 }
 
 /// Returns whether the local name is an NCName, and the namespace has characters of XML alone.
 pub fn is_good_name(name: ExpandedName<'_>) -> bool
     ensures { result ≡ is_good_name (name_told name.entry) }
 {
-    are_xml_chars(name.namespace) && is_ncname(name.local)
+    are_xml_chars(name.namespace) && is_local_name(name.local)
 }
 
 /// Returns whether a text has only spaces, tabs and line ends.
