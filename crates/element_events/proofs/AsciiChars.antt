@@ -12,8 +12,9 @@ use Rattle.std.proofs.lemmas.Str.Ascii.{IsAscii-nil, IsAscii-cons}
 use Rattle.std.specs.Str.{chars}
 use Rattle.rng_model.proofs.Truths.{no_truth}
 use Rattle.rng_model.specs.names.Names.{is_xml_char, is_name_start, is_name_char, is_colon, is_ncname, is_in_ranges, name_start_ranges, more_name_ranges}
+use Rattle.rng_model.specs.datatypes.Texts.{is_blank, is_blank_byte}
 use Rattle.rng_model.specs.documents.Telling.{are_xml_chars}
-use Rattle.element_events.specs.plain.AsciiChars.{is_ascii_char, is_ascii_start, is_ascii_part, is_ascii_name}
+use Rattle.element_events.specs.plain.AsciiChars.{is_ascii_char, is_plain, is_ascii_start, is_ascii_part, is_ascii_name}
 
 char_of : (b : ℕ) → is_ascii_char b ≡ true → is_xml_char b ≡ true
 char_of b e = grind (arith, nat_tests)
@@ -108,3 +109,19 @@ ascii_name (b ∷ bs) e =
     let p = and_parts (is_ascii_start b) (list_all is_ascii_part bs) e in
     ap is_ncname (chars-IsAscii (b ∷ bs) (IsAscii-cons b bs (start_low b p.0) (parts_low bs p.1)))
     ∙ both_true (is_name_start b && not (is_colon b)) (list_all (λ d. is_name_char d && not (is_colon d)) bs) (start_of b p.0) (parts_of bs p.1)
+
+all_weaker : (p q : ℕ → Bool) → ((b : ℕ) → p b ≡ true → q b ≡ true) → (bs : List ℕ) → list_all p bs ≡ true → list_all q bs ≡ true
+all_weaker p q f [] e = refl
+all_weaker p q f (b ∷ bs) e = let h = and_parts (p b) (list_all p bs) e in both_true (q b) (list_all q bs) (f b h.0) (all_weaker p q f bs h.1)
+
+plain_char : (b : ℕ) → is_plain b ≡ true → is_ascii_char b ≡ true
+plain_char b e = grind (arith, nat_tests)
+
+blank_char : (b : ℕ) → is_blank_byte b ≡ true → is_ascii_char b ≡ true
+blank_char b e = grind (arith, nat_tests)
+
+pub plain_chars : (bs : List ℕ) → list_all is_plain bs ≡ true → list_all is_ascii_char bs ≡ true
+plain_chars bs e = all_weaker is_plain is_ascii_char plain_char bs e
+
+pub blank_chars : (bs : List ℕ) → is_blank bs ≡ true → list_all is_ascii_char bs ≡ true
+blank_chars bs e = all_weaker is_blank_byte is_ascii_char blank_char bs e

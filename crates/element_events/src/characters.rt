@@ -5,7 +5,7 @@ ghost use Rattle.std.specs.Str.{chars};
 ghost use Rattle.rng_model.specs.names.Names.{is_ncname};
 ghost use Rattle.rng_model.specs.datatypes.Texts.{is_blank};
 ghost use Rattle.rng_model.specs.documents.Telling.{are_xml_chars, is_good_name};
-ghost use Rattle.element_events.specs.plain.AsciiChars.{flaw, is_ascii_char, is_ascii_name, is_ascii_part, is_ascii_start};
+ghost use Rattle.element_events.specs.plain.AsciiChars.{flaw, is_ascii_char, is_ascii_name, is_ascii_part, is_ascii_start, is_plain};
 ghost use Rattle.element_events.specs.views.Told.{name_told};
 
 use crate::names::ExpandedName;
@@ -36,14 +36,32 @@ fn are_ascii_chars(bytes: &[u8]) -> bool
     flaws == 0
 }
 
-/// Returns whether all bytes are ASCII characters of XML. It looks at one after another, which is quick for a few.
+/// Returns whether all bytes are ASCII characters that are no control characters.
+fn are_plain(bytes: &[u8]) -> bool
+    ensures { result ≡ list_all is_plain bytes.now }
+{
+    bytes.iter().all(|byte| matches!(*byte, 0x20..=0x7F))
+}
+
+/// Returns whether all bytes are spaces, tabs and line ends.
+fn are_blank(bytes: &[u8]) -> bool
+    ensures { result ≡ is_blank bytes.now }
+{
+    bytes
+        .iter()
+        .all(|byte| matches!(*byte, b' ' | b'\t' | b'\n' | b'\r'))
+}
+
+/// Returns whether all bytes are ASCII characters of XML. It is quick for a few bytes that are plain, or blank.
+#[tactic(auto, using(crate::proofs::AsciiChars::plain_chars, crate::proofs::AsciiChars::blank_chars))]
 fn are_few_ascii_chars(bytes: &[u8]) -> bool
     ensures { result ≡ list_all is_ascii_char bytes.now }
 {
-    bytes.iter().all(|byte| is_ascii_char(*byte))
+    are_plain(bytes) || are_blank(bytes) || are_ascii_chars(bytes)
 }
 
-/// Returns whether all bytes are ASCII characters of XML. The last ones, which are no block of 8, are looked at one by one.
+/// Returns whether all bytes are ASCII characters of XML. The last ones, which are no block of 8, are looked at one by
+/// one.
 fn is_ascii_text(bytes: &[u8]) -> bool
     ensures { result ≡ list_all is_ascii_char bytes.now }
 {
@@ -105,7 +123,5 @@ pub fn is_good_name(name: ExpandedName<'_>) -> bool
 pub fn is_blank(text: &str) -> bool
     ensures { result ≡ is_blank text.now }
 {
-    text.as_bytes()
-        .iter()
-        .all(|byte| matches!(*byte, b' ' | b'\t' | b'\n' | b'\r'))
+    are_blank(text.as_bytes())
 }

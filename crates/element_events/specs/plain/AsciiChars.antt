@@ -7,6 +7,10 @@ use Rattle.rng_model.specs.names.Names.{is_in_ranges}
 abbrev pub is_ascii_char : ℕ → Bool
 is_ascii_char b = (nat_le 0x20 b || b == 0x9 || b == 0xA || b == 0xD) && nat_lt b 0x80
 
+-- no control character
+abbrev pub is_plain : ℕ → Bool
+is_plain b = nat_le 0x20 b && nat_le b 0x7F
+
 abbrev pub flaw : Bool → ℕ
 flaw good = if good then 0 else 1
 
