@@ -6,7 +6,7 @@ use element_events::EventFault;
 use rng_deriv::{Matcher, MatcherState};
 
 /// Puts a state into its place.
-#[inline]
+#[inline(always)]
 fn put_back(place: &mut Option<MatcherState>, state: MatcherState)
     ensures { place.new ≡ Some state }
 {
@@ -15,7 +15,7 @@ fn put_back(place: &mut Option<MatcherState>, state: MatcherState)
 
 /// Puts what a matcher keeps back into its place, unless the call ran out of memory, and keeps the fault of the call, if
 /// it has one. Returns the result of the call. Allocates nothing.
-#[inline]
+#[inline(always)]
 pub fn settle(
     answer: Result<(), EventFault>,
     matcher: Matcher<'_>,
