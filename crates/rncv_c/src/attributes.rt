@@ -1,5 +1,6 @@
 // Names and attributes as C passes them.
-ghost use Rattle.std.specs.Prelude.{◌≡◌, All, IfErr, IfOk, IsUtf8, IsErrOf, OnOk, map};
+ghost use Rattle.std.specs.Prelude.{◌≡◌, All, IfErr, IfOk, IsUtf8, IsErrOf, OnOk, map, true};
+ghost use Rattle.std.specs.Str.{IsAscii};
 ghost use Rattle.element_events.specs.views.Told.{attribute_told, name_told};
 ghost use Rattle.rncv_c.specs.views.Attributes.{IsTextAttribute, IsTextName, attribute_of, name_of};
 
@@ -23,14 +24,23 @@ pub struct AttributeBytes<'a> {
     pub value: &'a [u8],
 }
 
+/// Returns whether all bytes are ASCII. It is a call, so that `text_of` is small enough to be inlined.
+#[inline(never)]
+fn are_ascii(bytes: &[u8]) -> bool
+    ensures { result ≡ true → IsAscii bytes.now }
+{
+    bytes.is_ascii()
+}
+
 /// Returns the text of these bytes. Fails with `NotWellFormed` exactly if they are not UTF-8. Bytes that are all ASCII cost
 /// less than others.
+#[inline(always)]
 pub fn text_of(bytes: &[u8]) -> Result<&str, EventFault>
     ensures text { IfOk result (λ text. text.now ≡ bytes.now) }
     ensures utf8 { OnOk result (IsUtf8 bytes.now) }
     ensures fault { IfErr result (λ fault. (fault ≡ EventFault.NotWellFormed) × ¬ (IsUtf8 bytes.now)) }
 {
-    if bytes.is_ascii() {
+    if are_ascii(bytes) {
         let text = unsafe { str::from_utf8_unchecked(bytes) };
         return Ok(text);
     }
@@ -41,6 +51,7 @@ pub fn text_of(bytes: &[u8]) -> Result<&str, EventFault>
 }
 
 /// Returns the name of these bytes. Fails with `NotWellFormed` exactly if a part is not UTF-8.
+#[inline(always)]
 pub fn text_name(name: NameBytes<'_>) -> Result<ExpandedName<'_>, EventFault>
     ensures name { IfOk result (λ told. name_told told ≡ name_of name.entry) }
     ensures texts { OnOk result (IsTextName (name_of name.entry)) }
