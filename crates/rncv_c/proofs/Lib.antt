@@ -1,6 +1,5 @@
 mod AsBox
 mod Crossing
-mod JoinedNames
 mod ProfileCompiled
 mod WrittenTexts
 mod RefusedNames

@@ -5,10 +5,10 @@ use Rattle.rng_model.specs.simple.Table.{Table}
 use Rattle.rng_model.specs.declared.type_set.TypeSet.TheVariants.{Profile}
 use Rattle.rncv_validator.specs.views.Validators.{IsOneFor, IsOneForWith}
 use Rattle.rncv_validator.proofs.ProfileSchemas.{one_of_profile, refusal_of_profile}
-use Rattle.rncv_c.specs.views.Files.{files_of, main_of}
-use Rattle.rncv_c.specs.views.Told.{AreRefused, AreRefusedWith}
-use Rattle.rncv_c.specs.declared.files.SchemaFile.{SchemaFile}
-use Rattle.rncv_c.specs.declared.told.Refusal.{Refusal}
+use Rattle.rncv_c_values.specs.views.Files.{files_of, main_of}
+use Rattle.rncv_c_values.specs.views.Told.{AreRefused, AreRefusedWith}
+use Rattle.rncv_c_values.specs.declared.files.SchemaFile.{SchemaFile}
+use Rattle.rncv_c_values.specs.declared.told.Refusal.{Refusal}
 
 module _ (files : List SchemaFile) where
   pub one_compiled : (held : Option Table) → IsSomeAnd held (IsOneForWith Profile (files_of files) (main_of files))

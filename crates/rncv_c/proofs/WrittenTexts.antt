@@ -2,7 +2,7 @@
 use Rattle.std.proofs.Common.{◌≡◌, ◌<◌, ◌++◌, ℕ, List, Option, None, Some, drop, length}
 use Rattle.std.specs.Prelude.{IsSomeAnd}
 use Rattle.rng_model.specs.simple.Table.{Table}
-use Rattle.rncv_c.specs.views.Texts.{IsTextOf, IsTooLong, IsWritten}
+use Rattle.rncv_c_values.specs.views.Texts.{IsTextOf, IsTooLong, IsWritten}
 
 module _ (text : List ℕ) (count : ℕ) (old : List ℕ) (count_is : count ≡ length text) where
   pub text_written : (held : Option Table) (new : List ℕ) → IsSomeAnd held (λ g. IsTextOf g text) → new ≡ text ++ drop (length text) old

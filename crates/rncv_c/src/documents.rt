@@ -2,12 +2,12 @@
 ghost use Rattle.std.specs.Prelude.{◌≡◌, ◌≢◌, ◌↔◌, [], IfErr, IfNone, IfOk, IfSome, IsSomeAnd, OnSome};
 ghost use Rattle.std.specs.declared.option.Option.TheVariants.{None, Some};
 ghost use Rattle.rncv_c.specs.views.Calls.{HasBegun, HasEnded, HasTaken, IsEndOf, IsInvalidSince, status_of_end, told_at_end};
-ghost use Rattle.rncv_c.specs.views.Held.{code_of, document_in, grammar_in, schema_in};
+ghost use Rattle.rncv_c_values.specs.views.Codes.{code_of};
+ghost use Rattle.rncv_c.specs.views.Held.{document_in, grammar_in, schema_in};
 
 use crate::handle::{Handle, Held};
-use crate::status::Status;
-use crate::told::{Judgement, judgement_to_tell};
 use core::mem::replace_with;
+use rncv_c_values::{Judgement, Status, judgement_to_tell};
 use rncv_model::Verdict;
 use rncv_validator::{Document, DocumentFault, Validator};
 use rng_model::OutOfMemory;

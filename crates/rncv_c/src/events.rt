@@ -4,16 +4,17 @@ ghost use Rattle.std.specs.declared.option.Option.TheVariants.{None, Some};
 ghost use Rattle.rng_model.specs.documents.PyxTrees.{a_string, an_end};
 ghost use Rattle.element_events.specs.views.Told.{call};
 ghost use Rattle.rncv_events.specs.views.Told.{failed_since};
-ghost use Rattle.rncv_c.specs.views.Attributes.{AreTexts, name_of, start_of};
+ghost use Rattle.rncv_c_values.specs.views.Attributes.{AreTexts, name_of, start_of};
 ghost use Rattle.rncv_c.specs.views.Events.{HasAnswered, HasBegun, HasEnded, HasTaken, HasTakenAnywhere, IsEndOf, IsInvalidSince, judgement_of, status_of_call, status_of_end, told_at_end};
-ghost use Rattle.rncv_c.specs.views.Held.{code_of, events_in, grammar_in, schema_in};
+ghost use Rattle.rncv_c_values.specs.views.Codes.{code_of};
+ghost use Rattle.rncv_c.specs.views.Held.{events_in, grammar_in, schema_in};
 
-use crate::attributes::{AttributeBytes, NameBytes, text_attributes, text_name, text_of};
 use crate::documents::validator_in;
 use crate::handle::{Handle, Held};
-use crate::status::Status;
-use crate::told::Judgement;
 use core::mem::replace_with;
+use rncv_c_values::{
+    AttributeBytes, Judgement, NameBytes, Status, text_attributes, text_name, text_of,
+};
 use rncv_events::{EventDocument, EventFault, Outcome};
 use std::alloc::Global;
 

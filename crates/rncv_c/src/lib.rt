@@ -2,7 +2,7 @@
 //!
 //! A handle of C holds nothing, or a schema, or a document in progress, in PYX or of events. Each function here is one call, and returns its
 //! status as a number. A call on a handle that does not hold what the call needs returns a status too. The numbers are
-//! those of `code_of`.
+//! those of `code_of` of `rncv_c_values`.
 #![tactic(auto)]
 
 ghost use Rattle.std.specs.Prelude.{◌≡◌, ◌≢◌, ◌↔◌, pos, IfSome, IsSome, IsSomeAnd, IsUtf8, ⊤};
@@ -12,38 +12,28 @@ ghost use Rattle.rnc_model.specs.loading.SchemaFile.{FileName};
 ghost use Rattle.rng_model.specs.documents.PyxTrees.{a_string, an_end};
 ghost use Rattle.element_events.specs.views.Told.{call};
 ghost use Rattle.rncv_validator.specs.views.Validators.{IsOneFor, IsOneForWith};
-ghost use Rattle.rncv_c.specs.views.Attributes.{AreTexts, name_in, start_of};
+ghost use Rattle.rncv_c_values.specs.views.Attributes.{AreTexts, IsTextName, name_in, start_of};
 ghost use Rattle.rncv_c.specs.views.Calls.{HasBegun, HasEnded, HasTaken, IsInvalidSince};
-ghost use Rattle.rncv_c.specs.views.Datatypes.{set_of};
+ghost use Rattle.rncv_c_values.specs.views.Datatypes.{set_of};
 ghost use Rattle.rncv_c.specs.views.Events as of_events;
-ghost use Rattle.rncv_c.specs.views.Expected.{HoldsNoDocument, IsExpectationIn};
-ghost use Rattle.rncv_c.specs.views.Files.{AreNamed, files_of, main_of};
+ghost use Rattle.rncv_c.specs.views.Expected.{HoldsNoDocument, IsExpectationIn, IsTagText};
+ghost use Rattle.rncv_c_values.specs.views.Files.{AreNamed, files_of, main_of};
 ghost use Rattle.rncv_c.specs.views.Held.{document_in, events_in, grammar_in, schema_in};
-ghost use Rattle.rncv_c.specs.views.Mentions.{AreMentionsOf, IsRefusedAlone};
-ghost use Rattle.rncv_c.specs.views.Texts.{IsTextOf, IsTooLong, IsWritten};
-ghost use Rattle.rncv_c.specs.views.Told.{AreRefused, AreRefusedWith, IsPlaceOfDatatype, IsRefusedName};
+ghost use Rattle.rncv_c_values.specs.views.Mentions.{AreMentionsOf, IsRefusedAlone};
+ghost use Rattle.rncv_c_values.specs.views.Texts.{IsTextOf, IsTooLong, IsWritten};
+ghost use Rattle.rncv_c_values.specs.views.Told.{AreRefused, AreRefusedWith, IsPlaceOfDatatype, IsRefusedName};
 
-mod attributes;
-mod datatypes;
 mod documents;
 mod events;
 mod expected;
-mod files;
 mod handle;
-mod mentions;
-mod places;
 mod schemas;
-mod status;
-mod texts;
-mod told;
 
-use attributes::{AttributeBytes, NameBytes};
-use datatypes::set_of_number;
-use files::SchemaFile;
 use handle::Handle;
-use status::Status;
+use rncv_c_values::{
+    AttributeBytes, Judgement, NameBytes, Refusal, SchemaFile, Status, set_of_number,
+};
 use std::alloc::Global;
-use told::{Judgement, Refusal};
 
 /// Compiles the schema of these files, the first of which is the main one, with the datatypes of the profile, and puts it
 /// into the handle. What the handle held is freed. It is `rncv_compile_with` of 0.
@@ -143,7 +133,7 @@ pub extern "C" fn rncv_mentions(
     ensures uncounted { result ≢ pos 0 → result ≢ pos 5 → count.new ≡ count.old }
     ensures untold { result ≢ pos 1 → fault.new ≡ fault.old }
 {
-    mentions::mentions(alloc, file, buffer, count, fault).code()
+    rncv_c_values::mentions(alloc, file, buffer, count, fault).code()
 }
 
 /// Reports in `place` where the first datatype in a schema file breaks clause 12 with a set of datatypes, as
@@ -165,7 +155,7 @@ pub extern "C" fn rncv_datatype_place(
     ensures untold { result ≢ pos 0 → place.new ≡ place.old }
 {
     match set_of_number(datatypes) {
-        Some(types) => places::datatype_place(alloc, types, file, place).code(),
+        Some(types) => rncv_c_values::datatype_place(alloc, types, file, place).code(),
         None => Status::Misuse.code(),
     }
 }
@@ -400,6 +390,36 @@ pub extern "C" fn rncv_expected(
     ensures kept { schema.new.held ≡ schema.old.held }
 {
     expected::expected(alloc, schema, buffer, count).code()
+}
+
+/// Writes what the tag of a start of this name may have next in the document of events that the handle holds, as text, to
+/// the buffer if it fits, and reports its length in `count`. `tag_text` of `expected_text` has the lines. If no
+/// continuation is valid, it is what could have been in place of the event that made it so.
+///
+/// Returns 0 on success; 2 exactly if a document of events is begun and the name is not UTF-8; 3 when out of memory, or if
+/// a call for the document was; 4 exactly if no document of events is begun; 5 if the text does not fit, and then nothing
+/// is written to the buffer. Costs what `EventDocument::expected_tag` costs, the text, and a copy. RELAX NG Specification,
+/// sections 6.2.7 and 6.2.8.
+#[unsafe(no_mangle)]
+pub extern "C" fn rncv_expected_tag(
+    alloc: Global,
+    schema: &mut Handle,
+    uri: &[u8],
+    local: &[u8],
+    buffer: &mut [u8],
+    count: &mut usize,
+) -> i32
+    ensures done { result ≡ pos 0 → IfSome (events_in schema.old.held) (λ d. IsWritten (IsTagText (name_in uri.now local.now) d) count.new buffer.old buffer.new) }
+    ensures space { result ≡ pos 5 → IfSome (events_in schema.old.held) (λ d. IsTooLong (IsTagText (name_in uri.now local.now) d) count.new buffer.old) }
+    ensures misuse { (result ≡ pos 4) ↔ (events_in schema.old.held ≡ None) }
+    ensures malformed { result ≡ pos 2 → ¬ (IsTextName (name_in uri.now local.now)) }
+    ensures named { result ≢ pos 4 → result ≢ pos 2 → IsTextName (name_in uri.now local.now) }
+    ensures others { result ≢ pos 0 → result ≢ pos 2 → result ≢ pos 4 → result ≢ pos 5 → result ≡ pos 3 }
+    ensures failed { result ≢ pos 0 → buffer.new ≡ buffer.old }
+    ensures untold { result ≢ pos 0 → result ≢ pos 5 → count.new ≡ count.old }
+    ensures kept { schema.new.held ≡ schema.old.held }
+{
+    expected::expected_tag(alloc, schema, NameBytes { uri, local }, buffer, count).code()
 }
 
 /// Writes the printed simple form of the schema to the buffer if it fits, and reports its length in `count`.

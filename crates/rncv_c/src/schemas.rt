@@ -4,16 +4,15 @@ ghost use Rattle.std.specs.declared.option.Option.TheVariants.{None, Some};
 ghost use Rattle.rnc_model.specs.loading.SchemaFile.{FileName};
 ghost use Rattle.rncv_model.specs.answers.VerdictWith.{IsRefusalWith};
 ghost use Rattle.rncv_validator.specs.views.Validators.{IsOneFor, IsOneForWith};
-ghost use Rattle.rncv_c.specs.views.Files.{AreNamed, files_of, main_of};
+ghost use Rattle.rncv_c_values.specs.views.Files.{AreNamed, files_of, main_of};
 ghost use Rattle.rncv_c.specs.views.Held.{schema_in};
-ghost use Rattle.rncv_c.specs.views.Texts.{IsTextOf, IsTooLong, IsWritten};
-ghost use Rattle.rncv_c.specs.views.Told.{AreRefused, AreRefusedWith, IsRefusedName};
+ghost use Rattle.rncv_c_values.specs.views.Texts.{IsTextOf, IsTooLong, IsWritten};
+ghost use Rattle.rncv_c_values.specs.views.Told.{AreRefused, AreRefusedWith, IsRefusedName};
 
-use crate::files::{SchemaFile, are_named, copied_files};
 use crate::handle::{Handle, Held};
-use crate::status::Status;
-use crate::texts::copied;
-use crate::told::{Refusal, refusal_to_tell};
+use rncv_c_values::{
+    Refusal, SchemaFile, Status, are_named, copied, copied_files, refusal_to_tell,
+};
 use rncv_validator::Validator;
 use rng_model::{SchemaFault, TypeSet};
 use std::alloc::Global;

@@ -1,7 +1,7 @@
 use Rattle.std.proofs.Common.{rules, ◌≡◌, ◌∙◌, sym, pos, w32, to_z, of_z}
-use Rattle.rncv_c.specs.views.Held.{code_of}
-use Rattle.rncv_c.specs.declared.status.Status.{Status}
-use Rattle.rncv_c.specs.declared.status.Status.TheVariants as status
+use Rattle.rncv_c_values.specs.views.Codes.{code_of}
+use Rattle.rncv_c_values.specs.declared.status.Status.{Status}
+use Rattle.rncv_c_values.specs.declared.status.Status.TheVariants as status
 use Rattle.rncv_c.proofs.rncv_refused_name.Goals as goal
 
 -- only misuse has this number

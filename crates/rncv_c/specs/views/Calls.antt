@@ -14,11 +14,11 @@ use Rattle.rncv_validator.specs.views.FedDocuments.{HasBeenFed, Judging}
 use Rattle.rncv_validator.specs.views.Validators.{Judges, JudgesWith}
 use Rattle.rncv_validator.specs.declared.fault.DocumentFault.{DocumentFault}
 use Rattle.rncv_validator.specs.declared.fault.DocumentFault.TheVariants as faults
-use Rattle.rncv_c.specs.views.Held.{code_of}
-use Rattle.rncv_c.specs.views.Told.{judgement_of}
-use Rattle.rncv_c.specs.declared.status.Status.{Status}
-use Rattle.rncv_c.specs.declared.status.Status.TheVariants as status
-use Rattle.rncv_c.specs.declared.told.Judgement.{Judgement}
+use Rattle.rncv_c_values.specs.views.Codes.{code_of}
+use Rattle.rncv_c_values.specs.views.Told.{judgement_of}
+use Rattle.rncv_c_values.specs.declared.status.Status.{Status}
+use Rattle.rncv_c_values.specs.declared.status.Status.TheVariants as status
+use Rattle.rncv_c_values.specs.declared.told.Judgement.{Judgement}
 
 -- nothing is fed yet, and there is no fault
 pub record HasBegun (document : Judging) : Type 0 where

@@ -15,10 +15,10 @@ use Rattle.element_events.specs.declared.fault.EventFault.TheVariants as faults
 use Rattle.rncv_events.specs.Answers.{AreHopelessFrom, IsAnswer, IsResult, KnowsStarts}
 use Rattle.rncv_events.specs.views.Told as told
 use Rattle.rncv_events.specs.views.Told.{Judging, Takes, failed_since}
-use Rattle.rncv_c.specs.views.Held.{code_of}
-use Rattle.rncv_c.specs.declared.status.Status.{Status}
-use Rattle.rncv_c.specs.declared.status.Status.TheVariants as status
-use Rattle.rncv_c.specs.declared.told.Judgement.{Judgement}
+use Rattle.rncv_c_values.specs.views.Codes.{code_of}
+use Rattle.rncv_c_values.specs.declared.status.Status.{Status}
+use Rattle.rncv_c_values.specs.declared.status.Status.TheVariants as status
+use Rattle.rncv_c_values.specs.declared.told.Judgement.{Judgement}
 
 -- no call was taken yet, and there is no fault
 pub record HasBegun (document : Judging) : Type 0 where

@@ -1,12 +1,10 @@
--- What handles hold, and the numbers that calls return to C.
-use Rattle.std.specs.Prelude.{ℤ, pos, Option, Some, None}
+-- What handles hold.
+use Rattle.std.specs.Prelude.{Option, Some, None}
 use Rattle.rng_model.specs.simple.Table.{Table}
 use Rattle.rncv_validator.specs.views.FedDocuments.{Judging}
 use Rattle.rncv_events.specs.views.Told as told
 use Rattle.rncv_c.specs.declared.handle.Held.{Held}
 use Rattle.rncv_c.specs.declared.handle.Held.TheVariants.{Schema, Document, Events}
-use Rattle.rncv_c.specs.declared.status.Status.{Status}
-use Rattle.rncv_c.specs.declared.status.Status.TheVariants as status
 
 -- the grammar of a schema, with no document begun
 abbrev pub schema_in : Option Held → Option Table
@@ -35,12 +33,3 @@ grammar_in None = None
 grammar_in (Some (Schema grammar)) = Some grammar
 grammar_in (Some (Document document)) = Some document.grammar
 grammar_in (Some (Events document)) = Some document.grammar
-
--- the numbers of the header
-abbrev pub code_of : Status → ℤ
-code_of status.Done = pos 0
-code_of status.Refused = pos 1
-code_of status.Malformed = pos 2
-code_of status.Memory = pos 3
-code_of status.Misuse = pos 4
-code_of status.Space = pos 5

@@ -2,7 +2,7 @@
 use Rattle.std.proofs.Common.{subst}
 use Rattle.rng_model.specs.declared.type_set.TypeSet.TheVariants.{Profile}
 use Rattle.rncv_model.specs.answers.VerdictWith.{IsRefusalWith}
-use Rattle.rncv_c.specs.views.Files.{files_of, main_of}
+use Rattle.rncv_c_values.specs.views.Files.{files_of, main_of}
 use Rattle.rncv_c.proofs.RefusedNames.{none_alone, none_good}
 use Rattle.rncv_c.proofs.schemas.name_of_refused.Goals as goal
 

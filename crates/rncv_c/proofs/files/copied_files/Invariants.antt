@@ -1,7 +1,0 @@
-use Rattle.std.proofs.Common.{◌≡◌, take}
-use Rattle.rnc_model.specs.loading.SchemaFile.{named_files}
-use Rattle.rncv_c.specs.views.Files.{files_of}
-use Rattle.rncv_c.proofs.files.copied_files.Given as goal
-
-abbrev pub invariant-loop-file : goal.invariant-loop-file
-invariant-loop-file l = named_files l.copy.items ≡ files_of (take l.file-index l.files)

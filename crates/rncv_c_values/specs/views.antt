@@ -1,0 +1,8 @@
+-- What is passed to C and taken from it.
+pub mod Attributes
+pub mod Codes
+pub mod Datatypes
+pub mod Files
+pub mod Mentions
+pub mod Texts
+pub mod Told
