@@ -273,6 +273,22 @@ int32_t rncv_events_finish(rncv_schema *schema, rncv_verdict *verdict);
  * use the handle. */
 int32_t rncv_expected(rncv_schema *schema, uint8_t *buffer, size_t size, size_t *length);
 
+/* Writes what the tag of an element of this name may have, if the element starts next in the document of events in progress, as text, to `buffer`, which has
+ * `size` bytes, and the text's length to `length`. If no continuation is valid, the element starts in place of the event after which none is. `uri` and `local`
+ * are as for rncv_events_start. The text has lines, as that of rncv_expected has.
+ *
+ *     attribute CLASS          it may have an attribute with one of these names
+ *     required {URI}local      it must have this attribute
+ *
+ * There is no line if no such element may start. An attribute counts where its pattern is in the content of such an element, whether or not a value matches it,
+ * and whether or not others may be beside it. It is required if each such element needs it.
+ *
+ * RNCV_MALFORMED: the name is not UTF-8. RNCV_SPACE: the text does not fit; nothing is written to `buffer`, and `length` is the number of bytes that it needs.
+ * RNCV_MEMORY: out of memory, or a call for the document was. RNCV_MISUSE: no document of events is in progress. But for RNCV_SPACE `length` is then
+ * unchanged. The document goes on in each case. The caller owns `buffer`. Only one thread at a time may use the handle. */
+int32_t rncv_expected_tag(rncv_schema *schema, const uint8_t *uri, size_t uri_length, const uint8_t *local, size_t local_length, uint8_t *buffer, size_t size,
+                          size_t *length);
+
 /* Writes the simple form of the schema, as text, to `buffer`, which has `size` bytes, and the text's length to `length`. The text does not end in
  * a zero. `buffer` may be NULL if `size` is 0. Each call prints the form again.
  *

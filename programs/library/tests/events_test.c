@@ -86,6 +86,44 @@ static void check_expected(rncv_schema *schema, const char *wanted) {
     }
 }
 
+/* What the tag of an element of this name may have is this text. */
+static void check_tag(rncv_schema *schema, const char *name, const char *wanted) {
+    uint8_t buffer[512];
+    size_t length = 99;
+    size_t size = strlen(wanted);
+    memset(buffer, '.', sizeof buffer);
+    CHECK(rncv_expected_tag(schema, NULL, 0, (const uint8_t *)name, strlen(name), buffer, sizeof buffer, &length) == RNCV_DONE && length == size);
+    CHECK(memcmp(buffer, wanted, size) == 0 && buffer[size] == '.');
+    if (size > 0) {
+        length = 99;
+        buffer[0] = '.';
+        CHECK(rncv_expected_tag(schema, NULL, 0, (const uint8_t *)name, strlen(name), buffer, size - 1, &length) == RNCV_SPACE && length == size);
+        CHECK(buffer[0] == '.');
+    }
+}
+
+static void expects_tags(void) {
+    rncv_schema schema = RNCV_NOTHING;
+    size_t length = 99;
+    CHECK(compile("element a { attribute id { text }, attribute x|y { text }?, (element b { attribute * - z { text }* } | element b { attribute c { empty } })* }",
+                  &schema) == RNCV_DONE);
+    CHECK(rncv_events_begin(&schema) == RNCV_DONE);
+    check_tag(&schema, "a", "attribute {}x\nattribute {}y\nattribute {}id\nrequired {}id\n");
+    check_tag(&schema, "b", "");
+    CHECK(rncv_expected_tag(&schema, NULL, 0, (const uint8_t *)"\x80", 1, NULL, 0, &length) == RNCV_MALFORMED && length == 99);
+    /* what could have been in place of the start that makes the document invalid */
+    CHECK(start(&schema, 1, "a") == RNCV_DONE);
+    check_tag(&schema, "a", "attribute {}x\nattribute {}y\nattribute {}id\nrequired {}id\n");
+    CHECK(rncv_events_end(&schema, 2) == RNCV_DONE);
+    check_finish(&schema, RNCV_INVALID, 1);
+    CHECK(rncv_events_begin(&schema) == RNCV_DONE);
+    rncv_attribute id = {NULL, 0, (const uint8_t *)"id", 2, (const uint8_t *)"", 0};
+    CHECK(rncv_events_start(&schema, 1, NULL, 0, (const uint8_t *)"a", 1, &id, 1) == RNCV_DONE);
+    /* the second element needs an attribute, the first one does not */
+    check_tag(&schema, "b", "attribute {}c\nattribute * except ( {}z )\n");
+    rncv_schema_free(&schema);
+}
+
 static void expects(rncv_schema *schema) {
     rncv_verdict verdict = {7, 7, 7};
     CHECK(rncv_events_begin(schema) == RNCV_DONE);
@@ -309,6 +347,7 @@ int main(void) {
     CHECK(compile(BOOK, &schema) == RNCV_DONE);
     judges(&schema);
     expects(&schema);
+    expects_tags();
     expects_all();
     names();
     refuses(&schema);

@@ -190,6 +190,25 @@ static int expected_once(void) {
     return status == RNCV_DONE;
 }
 
+/* Asks what a tag may have: returns 1 if it is written, 0 if a call ran out of memory. The document goes on in either case. */
+static int expected_tag_once(void) {
+    static const char wanted[] = "attribute {}b\nattribute * except ( {}b )\nrequired {}b\n";
+    rncv_schema schema = RNCV_NOTHING;
+    uint8_t buffer[128] = {'.'};
+    size_t length = 99;
+    int32_t status = compile("default namespace = \"u\" element a { attribute b { text }, attribute * - b { text }* }", &schema);
+    if (status == RNCV_DONE) {
+        status = rncv_events_begin(&schema);
+    }
+    if (status == RNCV_DONE) {
+        status = rncv_expected_tag(&schema, (const uint8_t *)"u", 1, (const uint8_t *)"a", 1, buffer, sizeof buffer, &length);
+        CHECK(status == RNCV_MEMORY ? length == 99 && buffer[0] == '.' : status == RNCV_DONE);
+        CHECK(status == RNCV_MEMORY || (length == sizeof wanted - 1 && memcmp(buffer, wanted, length) == 0));
+    }
+    rncv_schema_free(&schema);
+    return status == RNCV_DONE;
+}
+
 /* Asks for the place of a datatype: returns 1 if it is written, 0 if the call ran out of memory. */
 static int datatype_place_once(void) {
     const char *text = "datatypes d = \"u\" element a { xsd:string { maxLength = \"1\" } | xsd:byte \"7\" | attribute b { xsd:QName } | list { d:e } }";
@@ -308,6 +327,7 @@ int main(void) {
     each_growth_of(mentions_once);
     each_growth_of(refusal_once);
     each_growth_of(expected_once);
+    each_growth_of(expected_tag_once);
     each_growth_of(datatype_place_once);
     each_growth_of(no_datatype_place_once);
     printf("growths: %ld\n", count);

@@ -18,6 +18,7 @@ static void on_nothing(rncv_schema *schema) {
     CHECK(verdict.kind == 7 && verdict.clause == 7 && verdict.line == 7);
     CHECK(rncv_simple(schema, buffer, sizeof buffer, &length) == RNCV_MISUSE && length == 99);
     CHECK(rncv_expected(schema, buffer, sizeof buffer, &length) == RNCV_MISUSE && length == 99);
+    CHECK(rncv_expected_tag(schema, NULL, 0, (const uint8_t *)"a", 1, buffer, sizeof buffer, &length) == RNCV_MISUSE && length == 99);
     CHECK(memcmp(buffer, "....", 4) == 0);
     CHECK(schema->hidden == NULL);
 }
@@ -31,10 +32,12 @@ static void on_a_schema(void) {
     CHECK(compile("element a { empty }", &schema) == RNCV_DONE);
     CHECK(feed(&schema, "(a\n") == RNCV_MISUSE);
     CHECK(rncv_expected(&schema, NULL, 0, &length) == RNCV_MISUSE && length == 99);
+    CHECK(rncv_expected_tag(&schema, NULL, 0, (const uint8_t *)"a", 1, NULL, 0, &length) == RNCV_MISUSE && length == 99);
     CHECK(rncv_document_invalid_since(&schema, &line) == RNCV_MISUSE && line == 99);
     CHECK(rncv_document_end(&schema, &verdict) == RNCV_MISUSE && verdict.kind == 7);
     /* it still works */
     CHECK(rncv_document_begin(&schema) == RNCV_DONE);
+    CHECK(rncv_expected_tag(&schema, NULL, 0, (const uint8_t *)"a", 1, NULL, 0, &length) == RNCV_MISUSE && length == 99); /* it comes in PYX */
     CHECK(feed(&schema, "(a\n)a\n") == RNCV_DONE);
     CHECK(rncv_document_end(&schema, &verdict) == RNCV_DONE && verdict.kind == RNCV_VALID);
     /* after the end */

@@ -38,10 +38,10 @@ from typing import Any, BinaryIO, NamedTuple, NoReturn, Optional, Type, TypeVar,
 
 from . import _events, _schema_files, _xml
 from ._events import Attributes, EventVerdict, TreeVerdict
-from ._expected import Datatype, Expected, NameClass, Value, expected_of
+from ._expected import Datatype, Expected, ExpectedTag, NameClass, Value, expected_of, tag_of
 from ._xml import XmlVerdict
 
-__all__ = ["Datatype", "Document", "EventVerdict", "Events", "Expected", "LibraryError", "NameClass", "Place", "SchemaError", "TreeVerdict", "Validator", "Value",
+__all__ = ["Datatype", "Document", "EventVerdict", "Events", "Expected", "ExpectedTag", "LibraryError", "NameClass", "Place", "SchemaError", "TreeVerdict", "Validator", "Value",
            "Verdict", "XmlVerdict", "clause_title", "compile", "datatype_place", "mentions", "version"]
 __version__ = "0.9.0"
 
@@ -529,6 +529,19 @@ class Events(_InProgress):
         """Takes the end of the innermost element that is open. ValueError: the place is out of range."""
         return self._is_taken(self._validator._library.rncv_events_end, self._place_of(place))
 
+    def expected_tag(self, name: str) -> ExpectedTag:
+        """Returns what the tag of an element of this name may have, if the element starts next. Once `invalid_since` is known, it starts in place of that event.
+
+        There is nothing if no such element may start. An attribute counts where its pattern is in the content of such an element, whether or not a value
+        matches it. It is required if each such element needs it. TypeError: the name is not text. MemoryError: out of memory.
+        """
+        uri, local = _events.parts_of(name)
+        with self._validator._lock:
+            self._want_progress()
+            if not _is_utf8(uri + local):
+                return ExpectedTag((), ())  # no element has such a name
+            return tag_of(_written_by(self._validator._library.rncv_expected_tag, self._validator._handle, uri, len(uri), local, len(local)))
+
     def invalid_since(self) -> Optional[int]:
         """Returns the place after which no continuation is valid; None while no such place is known. It is that of a start or end, and no document that begins
         with the calls up to that one is valid."""
@@ -760,6 +773,14 @@ def _written_by(call: Callable[..., int], *words: Any) -> bytes:
             return ctypes.string_at(text, length.value)
 
 
+def _is_utf8(written: bytes) -> bool:
+    try:
+        written.decode("utf-8")
+    except UnicodeDecodeError:
+        return False
+    return True
+
+
 def _known(number: int) -> Optional[int]:
     """A number that the library returns, or None for -1."""
     return None if number < 0 else number
@@ -951,6 +972,7 @@ def _typed(library: ctypes.CDLL) -> ctypes.CDLL:
         ("rncv_events_invalid_since", [schema, ctypes.POINTER(ctypes.c_uint64)], status),
         ("rncv_events_finish", [schema, ctypes.POINTER(_Verdict)], status),
         ("rncv_expected", [schema, ctypes.c_char_p, size, ctypes.POINTER(size)], status),
+        ("rncv_expected_tag", [schema, ctypes.c_char_p, size, ctypes.c_char_p, size, ctypes.c_char_p, size, ctypes.POINTER(size)], status),
         ("rncv_simple", [schema, ctypes.c_char_p, size, ctypes.POINTER(size)], status),
         ("rncv_clause_title", [ctypes.c_char, ctypes.c_int32], ctypes.c_char_p),
         ("rncv_version", [], ctypes.c_char_p),

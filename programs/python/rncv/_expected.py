@@ -44,6 +44,20 @@ class Expected(NamedTuple):
     datatypes: tuple[Datatype, ...]
 
 
+class ExpectedTag(NamedTuple):
+    """What a tag may have: attributes with one of these names, and among them those that it must have, as `local` or `{uri}local`. Each is told once."""
+
+    attributes: tuple[NameClass, ...]
+    required: tuple[str, ...]
+
+
+def tag_of(written: bytes) -> ExpectedTag:
+    """What the lines of the library say of a tag."""
+    lines = [line.split(" ") for line in dict.fromkeys(written.decode("utf-8").split("\n")[:-1])]
+    attributes = tuple(_classes_of(line[:0:-1])[0] for line in lines if line[0] == "attribute")
+    return ExpectedTag(attributes, tuple(_classes_of(line[1:])[0].name for line in lines if line[0] == "required"))
+
+
 def expected_of(written: bytes) -> Expected:
     """What the lines of the library say."""
     lines = [line.split(" ") for line in dict.fromkeys(written.decode("utf-8").split("\n")[:-1])]

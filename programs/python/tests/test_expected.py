@@ -65,6 +65,22 @@ class DocumentTest(unittest.TestCase):
         for call in (events.expected, events.finish):
             self.assertRaises(ValueError, call)
 
+    def test_tags(self):
+        schema = "element a { attribute id { text }, attribute x | y { text }?, (element b { attribute * - z { text }* } | element b { attribute c { empty } })* }"
+        with rncv.compile(schema) as validator, validator.events() as events:
+            tag = events.expected_tag("a")
+            self.assertEqual((set(tag.attributes), tag.required), ({NameClass("x"), NameClass("y"), NameClass("id")}, ("id",)))
+            self.assertEqual(events.expected_tag("b"), rncv.ExpectedTag((), ()))
+            for other in ("{u}a", "", "\ud800"):
+                self.assertEqual(events.expected_tag(other), rncv.ExpectedTag((), ()))
+            events.start("a", {"id": "1"})
+            tag = events.expected_tag("b")
+            self.assertEqual((set(tag.attributes), tag.required), ({NameClass("c"), NameClass("*", (NameClass("z"),))}, ()))
+            events.start("c", place=99)
+            self.assertEqual(events.expected_tag("b"), tag)
+            self.assertRaises(TypeError, events.expected_tag, b"b")
+        self.assertRaises(ValueError, events.expected_tag, "b")
+
     def test_pyx(self):
         with self.validator.begin() as document:
             self.assertEqual(document.expected().elements, (NameClass("{urn:b}book"),))
