@@ -1,0 +1,242 @@
+"""Where the files of a schema declare elements and attributes, with their documentation. It is read from the tokens, so that it needs no schema that is good."""
+from __future__ import annotations
+
+import dataclasses
+import re
+from typing import Dict, Iterator, List, Optional, Sequence, Set, Tuple
+
+from rncv_lsp.outside import Token
+from rncv_lsp.schema_files import SchemaFile, SchemaSet
+from rncv_lsp.schema_words import tokens_of
+from rncv_lsp.simple_form import Name
+
+KEYWORDS = ("attribute", "default", "datatypes", "div", "element", "empty", "external", "grammar", "include", "inherit", "list", "mixed", "namespace",
+            "notAllowed", "parent", "start", "string", "text", "token")
+ASSIGNS = ("=", "|=", "&=")
+COMMENT = re.compile(r"^[ \t]*##+[ \t]?(.*)$", re.M)
+
+
+@dataclasses.dataclass(eq=False)
+class Body:
+    """What is written in the braces of an element, or behind the name of a definition: references to definitions, and what is declared there."""
+
+    references: Set[str] = dataclasses.field(default_factory=set)
+    declared: List["Declaration"] = dataclasses.field(default_factory=list)
+
+
+@dataclasses.dataclass(eq=False)
+class Declaration:
+    """A pattern `element` or `attribute` of a file, from `start` to `end`. A URI in its names is None if it is not known. Its first name begins at `name_start`."""
+
+    kind: str
+    names: List[Tuple[Optional[str], str]]
+    file: SchemaFile
+    start: int
+    end: int
+    name_start: int
+    name_end: int
+    documentation: str
+    body: Body
+
+    def has(self, name: Name) -> bool:
+        """Whether it may declare the name."""
+        return any(local == name[1] and uri in (None, name[0]) for uri, local in self.names)
+
+    @property
+    def source(self) -> str:
+        """The pattern as it is written."""
+        return self.file.lines.slice(self.start, self.end)
+
+
+class Declarations:
+    """The declarations of a schema."""
+
+    def __init__(self, schema: SchemaSet) -> None:
+        self.elements: List[Declaration] = []
+        self.attributes: List[Declaration] = []
+        self.prefixes: Dict[str, str] = {}
+        self._definitions: Dict[str, List[Body]] = {}
+        for file in {file.key: file for file in schema.files.values()}.values():
+            reader = FileReader(file, "" if file.key == schema.main.key else None)
+            reader.read()
+            self.elements += [each for each in reader.found if each.kind == "element"]
+            self.attributes += [each for each in reader.found if each.kind == "attribute"]
+            for name, body in reader.definitions:
+                self._definitions.setdefault(name, []).append(body)
+            for prefix, uri in reader.prefixes.items():
+                self.prefixes.setdefault(uri, prefix)
+
+    def element(self, name: Name, parent: Optional[Name] = None) -> List[Declaration]:
+        """The declarations of elements with this name: those that are in elements of the parent's name, or else all."""
+        found = [each for each in self.elements if each.has(name)]
+        near = self._within(parent) if parent is not None and len(found) > 1 else set()
+        return [each for each in found if each in near] or found
+
+    def attribute(self, name: Name, element: Name) -> List[Declaration]:
+        """The declarations of attributes with this name: those of elements of the other name, or else all."""
+        found = [each for each in self.attributes if each.has(name)]
+        near = self._within(element)
+        return [each for each in found if each in near] or found
+
+    def _within(self, element: Name) -> Set[Declaration]:
+        """What is declared in elements of this name, also by the definitions to which they refer."""
+        waiting = [each.body for each in self.elements if each.has(element)]
+        seen: List[Body] = []
+        names: Set[str] = set()
+        while waiting:
+            body = waiting.pop()
+            seen.append(body)
+            for name in body.references - names:
+                names.add(name)
+                waiting += self._definitions.get(name, ())
+        return {declared for body in seen for declared in body.declared}
+
+
+class FileReader:
+    """Reads the tokens of a file, once from the first to the last. `default` is the default namespace, if the file has no declaration of it."""
+
+    def __init__(self, file: SchemaFile, default: Optional[str]) -> None:
+        self.found: List[Declaration] = []
+        self.definitions: List[Tuple[str, Body]] = []
+        self.prefixes: Dict[str, str] = {"xml": "http://www.w3.org/XML/1998/namespace"}
+        self._file, self._text, self._default = file, file.lines.text, default
+        self._tokens: Sequence[Token] = tokens_of(self._text)
+        # For each open brace: whether it has components of a grammar, the body, and the declaration.
+        self._open: List[Tuple[bool, Body, Optional[Declaration]]] = [(True, Body(), None)]
+        self._is_including = False
+
+    def read(self) -> None:
+        """Reads the file."""
+        at = 0
+        while at < len(self._tokens):
+            at = self._take(at, self._tokens[at])
+        for _, _, declaration in self._open[1:]:
+            if declaration is not None:
+                declaration.end = len(self._text)
+
+    def _take(self, at: int, token: Token) -> int:
+        """Takes a token and what belongs to it. Returns the index of the next one."""
+        if token.is_sign("["):
+            return self._behind_brackets(at)
+        if token.is_sign("{"):
+            before = self._tokens[at - 1] if at > 0 else None
+            is_grammar = self._is_including or (before is not None and before.is_keyword("grammar", "div"))
+            self._is_including = False
+            self._open.append((is_grammar, self._open[-1][1], None))
+        elif token.is_sign("}") and len(self._open) > 1:
+            declaration = self._open.pop()[2]
+            if declaration is not None:
+                declaration.end = token.end
+        elif token.is_keyword("namespace", "datatypes"):
+            return self._declared(at)
+        elif token.is_keyword("element", "attribute"):
+            return self._declaration(at, token.text)
+        elif token.kind in ("word", "quoted"):
+            self._word(at, token)
+        return at + 1
+
+    def _behind_brackets(self, at: int) -> int:
+        """The index behind an annotation."""
+        depth = 0
+        for index in range(at, len(self._tokens)):
+            depth += self._tokens[index].is_sign("[") - self._tokens[index].is_sign("]")
+            if depth == 0:
+                return index + 1
+        return len(self._tokens)
+
+    def _declared(self, at: int) -> int:
+        """Takes the declaration of a prefix or of the default namespace."""
+        sign = next((index for index in range(at, min(at + 3, len(self._tokens))) if self._tokens[index].is_sign("=")), None)
+        if sign is None or sign + 1 == len(self._tokens):
+            return at + 1
+        literals, end = [], sign + 1
+        while end < len(self._tokens) and (self._tokens[end].kind == "literal" or self._tokens[end].is_sign("~")):
+            literals.append(self._tokens[end].text if self._tokens[end].kind == "literal" else "")
+            end += 1
+        uri = "".join(literals) if literals else None
+        if self._tokens[at].is_keyword("namespace"):
+            if at > 0 and self._tokens[at - 1].is_keyword("default"):
+                self._default = uri
+            if sign == at + 2 and uri is not None:
+                self.prefixes[self._tokens[at + 1].text] = uri
+        return max(end, sign + 2)
+
+    def _declaration(self, at: int, kind: str) -> int:
+        """Takes an element or an attribute up to its brace."""
+        brace = at + 1
+        while brace < len(self._tokens) and not self._tokens[brace].is_sign("{", "}", "=", "|=", "&="):
+            brace += 1
+        if brace == len(self._tokens) or not self._tokens[brace].is_sign("{"):
+            return at + 1
+        end = next((index for index in range(at + 1, brace) if self._tokens[index].is_sign("-")), brace)
+        names = [token for token in self._tokens[at + 1:end] if token.kind in ("word", "quoted", "cname")]
+        first = names[0] if names else self._tokens[at + 1]
+        start = self._tokens[at].start
+        declaration = Declaration(kind, [self._name_of(token, kind) for token in names], self._file, start, start, first.start, first.end,
+                                  "\n".join(self._documentation(at)), Body())
+        self._open[-1][1].declared.append(declaration)
+        self.found.append(declaration)
+        self._open.append((False, declaration.body, declaration))
+        return brace + 1
+
+    def _name_of(self, token: Token, kind: str) -> Tuple[Optional[str], str]:
+        """The URI, if it is known, and the local name."""
+        if token.kind == "cname":
+            prefix, _, local = token.text.partition(":")
+            return self.prefixes.get(prefix), local
+        return "" if kind == "attribute" else self._default, token.text
+
+    def _word(self, at: int, token: Token) -> None:
+        """Takes a name that begins a definition or refers to one, or a keyword."""
+        is_grammar, body, declaration = self._open[-1]
+        is_assigned = at + 1 < len(self._tokens) and self._tokens[at + 1].is_sign(*ASSIGNS)
+        if token.is_keyword("include"):
+            self._is_including = True
+        elif is_assigned and is_grammar and not token.is_keyword("inherit"):
+            self._is_including = False
+            body = Body()
+            self.definitions.append((token.text, body))
+            self._open[-1] = is_grammar, body, declaration
+        elif not is_assigned and not token.is_keyword(*KEYWORDS):
+            body.references.add(token.text)
+
+    def _documentation(self, at: int) -> List[str]:
+        """The documentation before a pattern, or before the definition that begins with it: comments `##`, and annotations."""
+        lines: List[str] = []
+        while at >= 0:
+            end = self._tokens[at - 1].end if at > 0 else 0
+            lines[:0] = [found[1].rstrip() for found in COMMENT.finditer(self._text[end:self._tokens[at].start])]
+            before = self._tokens[at - 1] if at > 0 else None
+            if before is not None and before.is_sign("]"):
+                begin = self._before_brackets(at - 1)
+                lines[:0] = documented(self._tokens[begin:at])
+                at = begin
+            elif before is not None and before.is_sign(*ASSIGNS) and at > 1 and self._tokens[at - 2].kind in ("word", "quoted"):
+                at -= 2
+            else:
+                break
+        return lines
+
+    def _before_brackets(self, at: int) -> int:
+        """The index of the bracket that this one closes; 0 if there is none."""
+        depth = 0
+        for index in range(at, -1, -1):
+            depth += self._tokens[index].is_sign("]") - self._tokens[index].is_sign("[")
+            if depth == 0:
+                return index
+        return 0
+
+
+def documented(annotation: Sequence[Token]) -> Iterator[str]:
+    """The lines of documentation in an annotation."""
+    depth, name, inside = 0, "", 0
+    for token in annotation:
+        if token.is_sign("["):
+            depth += 1
+            inside = depth if name.rpartition(":")[2] == "documentation" else inside
+        elif token.is_sign("]"):
+            inside = 0 if inside == depth else inside
+            depth -= 1
+        elif token.kind == "literal" and inside == depth > 0:
+            yield from (line.strip() for line in token.text.strip().splitlines())
+        name = token.text if token.kind in ("word", "cname", "quoted") else ""

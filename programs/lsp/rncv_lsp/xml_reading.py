@@ -1,0 +1,197 @@
+"""Reads a document up to a place: which elements are open there, and what the schema expects next. A reading goes on from where it stopped as long as the text
+before that place stays the same, so that a keystroke near the end of a long document takes little time."""
+from __future__ import annotations
+
+import re
+import xml.parsers.expat
+from typing import Any, Dict, List, NamedTuple, Optional, Tuple
+
+from rncv_lsp.outside import rncv
+from rncv_lsp.texts import Text
+
+XML_NAMESPACE = "http://www.w3.org/XML/1998/namespace"
+FIRST_SCOPE: Dict[str, str] = {"": "", "xml": XML_NAMESPACE}
+# At most so many characters are in one line of PYX, and so many are parsed at once.
+LINE_LENGTH, PART_LENGTH = 8_192, 262_144
+ESCAPED = str.maketrans({"\\": "\\\\", "\n": "\\n", "\t": "\\t"})
+# What stands in a text that is not well formed: each of these has one beginning and one end, and what has no end goes to the end of the text.
+PIECE = re.compile(r"""<!--.*?(?:-->|\Z)|<!\[CDATA\[.*?(?:\]\]>|\Z)|<\?.*?(?:\?>|\Z)|<!(?:[^<>"']+|"[^"]*(?:"|\Z)|'[^']*(?:'|\Z))*>?|</?[^\s<>/&="'?!;]+"""
+                   r"""(?:[^<>"']+|"[^"<]*(?:"|(?=<)|\Z)|'[^'<]*(?:'|(?=<)|\Z))*>?""", re.S)
+NAME = re.compile(r"</?([^\s<>/&=\"'?!;]+)")
+GIVEN = re.compile(r"""\s([^\s<>/&="'?!;]+)\s*=\s*(?:"([^"<]*)"|'([^'<]*)')""")
+# The parts of a prolog.
+PROLOG = re.compile(r"""<!--.*?(?:-->|\Z)|<\?.*?(?:\?>|\Z)|<!DOCTYPE|"[^"]*(?:"|\Z)|'[^']*(?:'|\Z)|[][<>]""", re.S)
+
+
+class OpenElement(NamedTuple):
+    """An element that is open: its name as it is written, and the declarations that hold in it, as URIs by prefix."""
+
+    name: str
+    scope: Dict[str, str]
+
+    @property
+    def expanded(self) -> Tuple[str, str]:
+        """The URI and the local name. The URI of a prefix that is not declared is a text that no schema has."""
+        return expanded(self.name, self.scope)
+
+
+def expanded(name: str, scope: Dict[str, str]) -> Tuple[str, str]:
+    """The URI and the local name of an element's name."""
+    prefix, _, local = name.rpartition(":")
+    return scope.get(prefix, "\0"), local
+
+
+def scope_in(scope: Dict[str, str], attributes: List[str]) -> Dict[str, str]:
+    """The declarations in an element with these attributes, which are names and values in turn."""
+    declared = {name[6:]: value for name, value in zip(attributes[::2], attributes[1::2]) if name == "xmlns" or name.startswith("xmlns:")}
+    return {**scope, **declared} if declared else scope
+
+
+class Reading:
+    """What was read of a document. Without a validator only the open elements are known."""
+
+    def __init__(self, validator: Optional[rncv.Validator] = None) -> None:
+        self.lines, self.at = Text(), 0
+        self.open: List[OpenElement] = []
+        self.has_root = self.is_in_data = False
+        self._document = validator.begin() if validator is not None else None
+        self._is_fed, self._fault_at, self._part = True, -1, (0, b"")
+        self._pyx: List[str] = []
+        self._bytes = 0
+        self._parser: Any = xml.parsers.expat.ParserCreate("UTF-8")
+        self._prepare()
+
+    def _prepare(self) -> None:
+        """Says what the parser calls."""
+        parser = self._parser
+        parser.buffer_text, parser.ordered_attributes = True, True
+        if hasattr(parser, "SetReparseDeferralEnabled"):
+            parser.SetReparseDeferralEnabled(False)
+        parser.StartElementHandler, parser.EndElementHandler = self._start, self._end
+        parser.StartCdataSectionHandler, parser.EndCdataSectionHandler = (lambda: self._set_data(True)), (lambda: self._set_data(False))
+        if self._document is not None:
+            parser.CharacterDataHandler = self._text
+
+    def _start(self, name: str, attributes: List[str]) -> None:
+        """Takes a start tag."""
+        open_elements = self.open
+        scope = open_elements[-1].scope if open_elements else FIRST_SCOPE
+        open_elements.append(OpenElement(name, scope_in(scope, attributes) if attributes else scope))
+        self.has_root = True
+        self._pyx.append("(" + name)
+        for at in range(0, len(attributes), 2):
+            self._pyx.append(f"A{attributes[at]} {attributes[at + 1].translate(ESCAPED)}")
+
+    def _end(self, name: str) -> None:
+        """Takes an end tag."""
+        self.open.pop()
+        self._pyx.append(")" + name)
+
+    def _text(self, words: str) -> None:
+        """Takes a text."""
+        for at in range(0, len(words), LINE_LENGTH):
+            self._pyx.append("-" + words[at:at + LINE_LENGTH].translate(ESCAPED))
+
+    def _set_data(self, is_in_data: bool) -> None:
+        """Takes the beginning or the end of a section CDATA."""
+        self.is_in_data = is_in_data
+
+    def continues(self, lines: Text, end: int) -> bool:
+        """Whether the text has not changed before the place up to which it was read, which is not behind the new end."""
+        return self.at <= end and lines.begins_like(self.lines, self.at)
+
+    def advance(self, lines: Text, end: int) -> None:
+        """Reads on up to a place."""
+        while self._fault_at < 0 and self.at < end:
+            begin, self.at = self.at, min(self.at + PART_LENGTH, end)
+            self._parse(begin, lines.slice(begin, self.at))
+        self.lines = lines
+        if self._pyx and self._pyx[-1][0] in "(A":
+            self._pyx.append("?")  # the next line says that the tag has no more attributes
+        if self._document is not None and self._pyx and self._is_fed:
+            self._is_fed = self._document.feed(("\n".join(self._pyx) + "\n").encode("utf-8", "surrogatepass"))
+        self._pyx = []
+
+    def _parse(self, begin: int, words: str) -> None:
+        """Parses what follows."""
+        words = words[1:] if begin == 0 and words.startswith("\ufeff") else words
+        data = words.encode("utf-8", "surrogatepass")
+        try:
+            self._parser.Parse(data, False)
+        except xml.parsers.expat.ExpatError:
+            # A fault is at a byte of this part, or in what the parser kept of those before it.
+            left = max(0, self._parser.ErrorByteIndex - self._bytes)
+            self._fault_at = self.at - len(words) + len(data[:left].decode("utf-8", "replace"))
+        self._bytes += len(data)
+
+    def unfinished(self) -> int:
+        """Where the markup begins that is not finished at the place up to which was read; that place if there is none."""
+        left = self._bytes - self._parser.CurrentByteIndex if self.has_root and self._fault_at < 0 else 0
+        if not 0 < left <= self._bytes:
+            return self.at
+        data = self.lines.slice(self.at - left, self.at).encode("utf-8", "surrogatepass")
+        return self.at - len(data[-left:].decode("utf-8", "replace"))
+
+    @property
+    def fault_at(self) -> Optional[int]:
+        """Where the text is not well formed, if it is not."""
+        return self._fault_at if self._fault_at >= 0 else None
+
+    def expected(self) -> Optional[rncv.Expected]:
+        """What may come next; None if that is not known, since the document is not valid before that, or is not well formed."""
+        if self._document is None or not self._is_fed or self._fault_at >= 0 or self._document.invalid_since() is not None:
+            return None
+        return self._document.expected()
+
+    def close(self) -> None:
+        """Lets go of the validator."""
+        if self._document is not None:
+            self._document.close()
+
+
+def loosely_open(lines: Text, begin: int, end: int, open_elements: List[OpenElement]) -> Tuple[List[OpenElement], int]:
+    """The elements that are open at the end, if these are open at the beginning, as far as tags can be told in a text that is not well formed; and where the
+    markup begins that is not finished there."""
+    stack, text, last = list(open_elements), lines.slice(begin, end), end
+    for found in PIECE.finditer(text):
+        words = found[0]
+        last = begin + found.start() if found.end() == len(text) and not is_finished(words) else end
+        named = NAME.match(words)
+        if named is None or last < end:
+            continue
+        if words.startswith("</"):
+            at = next((at for at in reversed(range(len(stack))) if stack[at].name == named[1]), len(stack))
+            del stack[at:]
+        elif not words.endswith("/>"):
+            stack.append(OpenElement(named[1], scope_in(stack[-1].scope if stack else FIRST_SCOPE, given_in(words))))
+    return stack, last
+
+
+def is_finished(words: str) -> bool:
+    """Whether a piece of markup has its end."""
+    for begin, end in (("<!--", "-->"), ("<![CDATA[", "]]>"), ("<?", "?>")):
+        if words.startswith(begin):
+            return words.endswith(end) and len(words) >= len(begin) + len(end)
+    return words.endswith(">")
+
+
+def given_in(tag: str) -> List[str]:
+    """The attributes of a tag, as names and values in turn. References in values stay as they are."""
+    return [word for found in GIVEN.finditer(tag) for word in (found[1], found[2] if found[2] is not None else found[3])]
+
+
+def is_in_prolog(text: str) -> bool:
+    """Whether the end of a text is in a prolog, but in no comment, instruction or document type."""
+    depth, is_finished_there = 0, True
+    for found in PROLOG.finditer(text):
+        words = found[0]
+        if words == "<!DOCTYPE":
+            depth = 1
+        elif words == "[" and depth == 1:
+            depth = 2
+        elif words == "]" and depth == 2:
+            depth = 1
+        elif words == ">" and depth == 1:
+            depth = 0
+        is_finished_there = found.end() < len(text) or is_finished(words) or words == "]"
+    return depth == 0 and is_finished_there
