@@ -28,12 +28,14 @@ SETTLE_SECONDS, SETTLE_LENGTH, MOST_SETTLE_SECONDS, MOST_SETTLES, POLL_SECONDS =
 
 @dataclasses.dataclass(frozen=True)
 class Task:
-    """An XML document to judge: by a schema, or only whether it is well formed. `findings` are about how the document names its schema."""
+    """An XML document to judge: by a schema, or only whether it is well formed. `findings` are about how the document names its schema, and `schema` has the
+    files of that, even if they are refused."""
 
     document: Document
     outcome: Optional[Outcome] = None
     findings: Tuple[Finding, ...] = ()
     clauses_url: str = ""
+    schema: Optional[SchemaSet] = None
 
     def is_like(self, other: Optional["Task"]) -> bool:
         """Whether the other task has the same answer."""
@@ -69,6 +71,10 @@ class Coordinator:
             self._settle = max(self._settle, min(SETTLE_SECONDS + document.lines.length / SETTLE_LENGTH, MOST_SETTLE_SECONDS))
         self._changed_at = time.monotonic()
         self._changed.set()
+
+    def task_of(self, uri: str) -> Optional[Task]:
+        """The last task for a document; None if there was none yet."""
+        return self._tasks.get(uri)
 
     def _work(self) -> None:
         """Judges again and again."""
@@ -207,5 +213,5 @@ def task_of(document: Document, named: Named, schema: Optional[SchemaSet], outco
     outcome = outcomes[schema.main.key]
     what = refusal(schema, outcome)
     if what is not None:
-        return Task(document, None, (Finding(named.start, named.end, what, "schema"),))
-    return Task(document, outcome if outcome.validator is not None else None)
+        return Task(document, None, (Finding(named.start, named.end, what, "schema"),), schema=schema)
+    return Task(document, outcome if outcome.validator is not None else None, schema=schema)

@@ -12,6 +12,7 @@ from rncv_lsp.rpc import INTERNAL_ERROR, INVALID_REQUEST, NOT_INITIALIZED, PARSE
 from rncv_lsp.settings import settings_of
 from rncv_lsp.texts import CODECS
 from rncv_lsp.versions import shown_version
+from rncv_lsp.xml_answers import CAPABILITIES, XmlAnswers
 
 INCREMENTAL = 2
 
@@ -28,10 +29,16 @@ class Server:
         self._connection = Connection(sink)
         self._documents = Documents()
         self._coordinator = Coordinator(self._documents, self._connection, datatypes)
+        self._answers = XmlAnswers(self._documents, self._coordinator)
         self._state = "new"
         self._asks_settings = False
         self._dispatcher = Dispatcher(self._connection, self._allow)
         self._dispatcher.requests.update({"initialize": self._initialize, "shutdown": self._shutdown})
+        self._dispatcher.requests.update({
+            "textDocument/completion": self._answers.completion,
+            "textDocument/hover": self._answers.hover,
+            "textDocument/definition": self._answers.definition,
+        })
         self._dispatcher.notifications.update({
             "initialized": lambda params: self._ask_settings(),
             "exit": self._exit,
@@ -83,6 +90,9 @@ class Server:
         known = [each for each in offered if isinstance(each, str) and each in CODECS] if isinstance(offered, list) else []
         self._documents.encoding = known[0] if known else "utf-16"
         self._asks_settings = within(params, "capabilities", "workspace", "configuration") is True
+        self._answers.has_snippets = within(params, "capabilities", "textDocument", "completion", "completionItem", "snippetSupport") is True
+        formats = within(params, "capabilities", "textDocument", "hover", "contentFormat")
+        self._answers.has_markdown = isinstance(formats, list) and "markdown" in formats
         self._coordinator.roots = tuple(folders_of(params))
         self._set(within(params, "initializationOptions"))
         self._coordinator.start()
@@ -91,6 +101,7 @@ class Server:
             "capabilities": {
                 "positionEncoding": self._documents.encoding,
                 "textDocumentSync": {"openClose": True, "change": INCREMENTAL, "save": {"includeText": False}},
+                **CAPABILITIES,
                 "workspace": {"workspaceFolders": {"supported": True, "changeNotifications": True}},
             },
             "serverInfo": {"name": "rncv-lsp", "version": shown_version()},
@@ -117,7 +128,9 @@ class Server:
 
     def _closed(self, params: Any) -> None:
         """A document is closed."""
-        self._documents.close(member(member(params, "textDocument", dict), "uri", str))
+        uri = member(member(params, "textDocument", dict), "uri", str)
+        self._documents.close(uri)
+        self._answers.forget(uri)
         self._coordinator.touch()
 
     def _configured(self, params: Any) -> None:

@@ -1,0 +1,184 @@
+"""The answers about a place in an XML document: what may come there, and what the schema says of a name there."""
+from __future__ import annotations
+
+import os
+import re
+from typing import Any, Callable, Dict, List, NamedTuple, Optional, Tuple
+
+from rncv_lsp.coordinator import Coordinator, Task, uri_of_file
+from rncv_lsp.documents import Document, Documents
+from rncv_lsp.outside import rncv
+from rncv_lsp.rpc import member
+from rncv_lsp.schema_declarations import Declaration, Declarations
+from rncv_lsp.schema_files import SchemaSet
+from rncv_lsp.schemas import Outcome, name_of
+from rncv_lsp.settings import is_in
+from rncv_lsp.simple_form import Form
+from rncv_lsp.xml_completion import Asked, Completion, Knowledge, attribute_name
+from rncv_lsp.xml_cursor import Cursor, cursor_at, end_of_name
+from rncv_lsp.xml_reading import Reading, expanded
+
+CAPABILITIES = {
+    "completionProvider": {"triggerCharacters": ["<", "/", " ", '"', "'"]},
+    "hoverProvider": True,
+    "definitionProvider": True,
+}
+# Behind these characters a client asks by itself. In content they begin nothing.
+ONLY_IN_TAGS = (" ", "/", '"', "'")
+BY_CHARACTER = 2
+MOST_SCHEMAS, MOST_LINES, MOST_SHOWN = 8, 12, 3
+
+
+class Kept(NamedTuple):
+    """A reading that is kept for the next question about its document, and the schema by which it reads."""
+
+    schema: str
+    validator: Optional[rncv.Validator]
+    reading: Reading
+
+
+class Cache:
+    """Values by key. Those that were asked for longest ago are dropped."""
+
+    def __init__(self) -> None:
+        self._known: Dict[Any, Any] = {}
+
+    def find(self, key: Any, make: Callable[[], Any]) -> Any:
+        """The value of a key, which is made if there is none."""
+        value = self._known.pop(key) if key in self._known else make()
+        self._known[key] = value
+        while len(self._known) > MOST_SCHEMAS:
+            del self._known[next(iter(self._known))]
+        return value
+
+
+class XmlAnswers:
+    """Answers about documents. Only the thread that reads messages uses it."""
+
+    def __init__(self, documents: Documents, coordinator: Coordinator) -> None:
+        self._documents, self._coordinator = documents, coordinator
+        self._forms, self._declarations = Cache(), Cache()
+        self._expecting: Dict[str, Kept] = {}
+        self._telling: Dict[str, Reading] = {}
+        self.has_snippets = self.has_markdown = False
+
+    def forget(self, uri: str) -> None:
+        """Forgets what belongs to a closed document."""
+        self._expecting.pop(uri, None)
+        self._telling.pop(uri, None)
+
+    def completion(self, params: Any) -> Any:
+        """What may come at a position. As long as the schema is not known yet, the client is told to ask again."""
+        document, offset = self._place(params)
+        if document is None:
+            return None
+        task = self._coordinator.task_of(document.uri)
+        outcome = task.outcome if task is not None else None
+        reading = self._reading_by(document, outcome, offset)
+        cursor = cursor_at(reading, document.lines, offset)
+        asked_by = params.get("context")
+        is_by_character = isinstance(asked_by, dict) and asked_by.get("triggerKind") == BY_CHARACTER
+        if cursor.kind == "content" and is_by_character and asked_by.get("triggerCharacter") in ONLY_IN_TAGS:
+            return None
+        known = self._knowledge(task, outcome) if task is not None and outcome is not None else None
+        expected = reading.expected() if known is not None and cursor.kind in ("element", "content") else None
+        asked = Asked(document.lines, cursor, expected, self._documents.encoding, self.has_snippets)
+        return {"isIncomplete": task is None, "items": Completion(asked, known).items()}
+
+    def hover(self, params: Any) -> Any:
+        """What the schema says of the name at a position."""
+        document, offset = self._place(params)
+        if document is None:
+            return None
+        cursor, found = self._declared(document, offset)
+        if not found:
+            return None
+        words = "\n\n".join(map(self._shown, found[:MOST_SHOWN]))
+        return {"contents": {"kind": "markdown" if self.has_markdown else "plaintext", "value": words},
+                "range": document.lines.range(cursor.start, cursor.end, self._documents.encoding)}
+
+    def definition(self, params: Any) -> Any:
+        """Where the schema declares the name at a position."""
+        document, offset = self._place(params)
+        if document is None:
+            return None
+        encoding = self._documents.encoding
+        return [{"uri": uri_of_file(each.file), "range": each.file.lines.range(each.name_start, each.name_end, encoding)}
+                for each in self._declared(document, offset)[1]]
+
+    def _place(self, params: Any) -> Tuple[Optional[Document], int]:
+        """The document in XML that is meant, if it is open, and the offset in it."""
+        uri, position = member(member(params, "textDocument", dict), "uri", str), member(params, "position", dict)
+        line, character = (max(0, member(position, name, int)) for name in ("line", "character"))
+        document = self._documents.current(uri)
+        if document is None or not document.is_xml:
+            return None, 0
+        return document, document.lines.offset(line, character, self._documents.encoding)
+
+    def _reading_by(self, document: Document, outcome: Optional[Outcome], offset: int) -> Reading:
+        """A reading of the document by its schema: the one that is kept, if it can go on."""
+        name = outcome.name if outcome is not None else ""
+        kept = self._expecting.get(document.uri)
+        if kept is not None and kept.schema == name and kept.reading.continues(document.lines, offset):
+            return kept.reading
+        validator = kept.validator if kept is not None and kept.schema == name else None
+        if kept is not None:
+            kept.reading.close()
+        if validator is None and outcome is not None and outcome.validator is not None:
+            validator = outcome.validator.share()
+        kept = Kept(name, validator, Reading(validator))
+        self._expecting[document.uri] = kept
+        return kept.reading
+
+    def _reading(self, document: Document, offset: int) -> Reading:
+        """A reading of the document for its open elements alone. It leaves the other one where the client types."""
+        reading = self._telling.get(document.uri)
+        if reading is None or not reading.continues(document.lines, offset):
+            reading = self._telling[document.uri] = Reading()
+        return reading
+
+    def _knowledge(self, task: Task, outcome: Outcome) -> Knowledge:
+        """What is known of a schema."""
+        form = self._forms.find(outcome.name, lambda: Form(outcome.validator.simple_text().decode("utf-8")))
+        return Knowledge(form, self._declarations_of(task.schema))
+
+    def _declarations_of(self, schema: SchemaSet) -> Declarations:
+        """The declarations in a schema's files."""
+        key = name_of(schema, ""), tuple(file.path for file in schema.files.values())
+        return self._declarations.find(key, lambda: Declarations(schema))
+
+    def _declared(self, document: Document, offset: int) -> Tuple[Cursor, List[Declaration]]:
+        """The name at a place, and its declarations."""
+        offset = end_of_name(document.lines, offset)
+        cursor = cursor_at(self._reading(document, offset), document.lines, offset)
+        task = self._coordinator.task_of(document.uri)
+        schema = task.schema if task is not None else None
+        if schema is None or not 0 < cursor.end - cursor.start or cursor.kind not in ("element", "end", "attribute"):
+            return cursor, []
+        declarations = self._declarations_of(schema)
+        if cursor.kind == "attribute":
+            return cursor, declarations.attribute(attribute_name(cursor.attribute, cursor.scope), cursor.element)
+        around = cursor.open[:-1] if cursor.kind == "end" else cursor.open
+        name = cursor.element if cursor.kind == "element" or not cursor.open else expanded(cursor.tag, cursor.open[-1].scope)
+        return cursor, declarations.element(name, around[-1].expanded if around else None)
+
+    def _shown(self, declaration: Declaration) -> str:
+        """A declaration for people: its place, its documentation, and its source."""
+        file = declaration.file
+        root = next((root for root in self._coordinator.roots if is_in(file.path, root)), None)
+        path = os.path.relpath(file.path, root) if root is not None else file.path
+        place = f"{path}:{file.lines.position(declaration.start, self._documents.encoding)['line'] + 1}"
+        source = cut_source(declaration.source)
+        if not self.has_markdown:
+            return "\n\n".join(filter(None, (place, declaration.documentation, source)))
+        fence = "`" * max(3, *(len(run) + 1 for run in re.findall("`+", source) or [""]))
+        return "\n\n".join(filter(None, (f"`{place}`", declaration.documentation, f"{fence}rnc\n{source}\n{fence}")))
+
+
+def cut_source(source: str) -> str:
+    """The first lines of a pattern, with less indentation."""
+    lines = source.splitlines()
+    widths = [len(line) - len(line.lstrip()) for line in lines[1:] if line.strip()]
+    least = min(widths, default=0)
+    shown = [lines[0], *(line[least:] for line in lines[1:])] if lines else []
+    return "\n".join(shown[:MOST_LINES] + (["..."] if len(shown) > MOST_LINES else []))
