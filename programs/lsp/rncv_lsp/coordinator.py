@@ -4,7 +4,7 @@ from __future__ import annotations
 import dataclasses
 import threading
 import time
-from typing import Any, Dict, List, Optional, Set, Tuple
+from typing import Any, Callable, Dict, List, Optional, Set, Tuple
 
 from rncv_lsp import DATATYPES
 from rncv_lsp.documents import Document, Documents, uri_of
@@ -45,7 +45,7 @@ class Task:
 
 
 class Coordinator:
-    """Judges the open documents, and publishes what is found."""
+    """Judges the open documents, and publishes what is found. In the thread that has judged a document `prepare` gets ready what may be asked about it."""
 
     def __init__(self, documents: Documents, connection: Connection, datatypes: str = DATATYPES[0]) -> None:
         self.settings, self.roots = Settings(), ()  # type: Settings, Tuple[str, ...]
@@ -60,6 +60,7 @@ class Coordinator:
         self._states: Dict[str, Any] = {}
         self._tasks: Dict[str, Task] = {}
         self._validators: Dict[str, Tuple[str, rncv.Validator]] = {}
+        self.prepare: Callable[[Task], None] = lambda task: None
 
     def start(self) -> None:
         """Starts to judge."""
@@ -170,6 +171,7 @@ class Coordinator:
             return
         reported_of = [self._diagnostic(document.lines, finding) for finding in (*task.findings, *found)]
         self._publisher.set_one(f"xml:{document.uri}", document.uri, reported_of, lambda: None if is_cancelled() else document.version)
+        self.prepare(task)
 
     def _found(self, task: Task, is_cancelled: Cancelled) -> List[Finding]:
         """What is found in a document. Without the library for XML it is only judged whether the document is well formed."""

@@ -52,15 +52,15 @@ class Declarations:
     """The declarations of a schema."""
 
     def __init__(self, schema: SchemaSet) -> None:
-        self.elements: List[Declaration] = []
-        self.attributes: List[Declaration] = []
+        self._by_local: Dict[Tuple[str, str], List[Declaration]] = {}
+        self._inside: Dict[Name, Set[Declaration]] = {}
         self.prefixes: Dict[str, str] = {}
         self._definitions: Dict[str, List[Body]] = {}
         for file in {file.key: file for file in schema.files.values()}.values():
             reader = FileReader(file, "" if file.key == schema.main.key else None)
             reader.read()
-            self.elements += [each for each in reader.found if each.kind == "element"]
-            self.attributes += [each for each in reader.found if each.kind == "attribute"]
+            for each, local in [(each, local) for each in reader.found for local in dict.fromkeys(local for _, local in each.names)]:
+                self._by_local.setdefault((each.kind, local), []).append(each)
             for name, body in reader.definitions:
                 self._definitions.setdefault(name, []).append(body)
             for prefix, uri in reader.prefixes.items():
@@ -68,19 +68,24 @@ class Declarations:
 
     def element(self, name: Name, parent: Optional[Name] = None) -> List[Declaration]:
         """The declarations of elements with this name: those that are in elements of the parent's name, or else all."""
-        found = [each for each in self.elements if each.has(name)]
+        found = [each for each in self._by_local.get(("element", name[1]), ()) if each.has(name)]
         near = self._within(parent) if parent is not None and len(found) > 1 else set()
         return [each for each in found if each in near] or found
 
     def attribute(self, name: Name, element: Name) -> List[Declaration]:
         """The declarations of attributes with this name: those of elements of the other name, or else all."""
-        found = [each for each in self.attributes if each.has(name)]
-        near = self._within(element)
+        found = [each for each in self._by_local.get(("attribute", name[1]), ()) if each.has(name)]
+        near = self._within(element) if len(found) > 1 else set()
         return [each for each in found if each in near] or found
 
     def _within(self, element: Name) -> Set[Declaration]:
         """What is declared in elements of this name, also by the definitions to which they refer."""
-        waiting = [each.body for each in self.elements if each.has(element)]
+        if element not in self._inside:
+            self._inside[element] = self._reached([each.body for each in self._by_local.get(("element", element[1]), ()) if each.has(element)])
+        return self._inside[element]
+
+    def _reached(self, waiting: List[Body]) -> Set[Declaration]:
+        """What is declared in these, and in the definitions to which they refer."""
         seen: List[Body] = []
         names: Set[str] = set()
         while waiting:

@@ -4,7 +4,7 @@ from __future__ import annotations
 
 import functools
 import re
-from typing import Dict, FrozenSet, Iterator, List, NamedTuple, Optional, Sequence, Set, Tuple
+from typing import Dict, Iterator, List, NamedTuple, Optional, Sequence, Set, Tuple
 
 from rncv_lsp.outside import NoToken, Token, tokens
 
@@ -43,19 +43,21 @@ class Attribute(NamedTuple):
 
 
 class Content(NamedTuple):
-    """What elements of a name may have: attributes, names of elements in them, whether texts, and which of these the schema lists. `is_open` says that they may
-    have elements of any name."""
+    """What elements of a name may have: attributes, names of elements in them, and values that the schema lists for their text."""
 
     attributes: Tuple[Attribute, ...]
     children: Tuple[Name, ...]
-    has_text: bool
-    is_open: bool
     values: Tuple[str, ...]
 
-    @property
-    def is_empty(self) -> bool:
-        """Whether such an element has nothing between its tags."""
-        return not (self.children or self.has_text or self.is_open)
+
+class Need(NamedTuple):
+    """What each match of a pattern has: attributes, each with the lines that declare it. `is_filled` says that it may also have elements or texts."""
+
+    attributes: Dict[Name, Tuple[str, ...]]
+    is_filled: bool
+
+
+NO_NEED, FILLED = Need({}, False), Need({}, True)
 
 
 class Form:
@@ -66,6 +68,7 @@ class Form:
         self._prefixes: Dict[str, str] = {"": "", "xml": "http://www.w3.org/XML/1998/namespace"}
         self._read: Dict[str, Optional[Line]] = {}
         self._known: Dict[Name, Content] = {}
+        self._needs: Dict[Part, Need] = {}
         for line in text.split("\n"):
             name, _, written = line.partition(" = ")
             if name.startswith("namespace "):
@@ -103,9 +106,16 @@ class Form:
         wild = [line for line in self._wild if (read := self._line(line)) is not None and self.holds(read.names, name)]
         return [read for line in (*self._named.get(name, ()), *wild) if (read := self._line(line)) is not None]
 
-    def is_declared(self, name: Name) -> bool:
-        """Whether an element may have the name."""
-        return bool(self._lines_for(name))
+    def prepare(self) -> None:
+        """Gets ready what `need` tells."""
+        for name in self._named if not self._needs else ():
+            self.need(name)
+
+    def need(self, name: Name) -> "Tuple[Tuple[Attribute, ...], bool]":
+        """The attributes that each element of this name has, and whether such elements may have anything between their tags."""
+        needs = [self._need(line.parts[0]) for line in self._lines_for(name)]
+        merged = either(needs) if needs else FILLED
+        return tuple(self._attribute(each, lines, True) for each, lines in merged.attributes.items()), merged.is_filled
 
     def content(self, name: Name) -> Content:
         """What elements of this name may have."""
@@ -115,24 +125,23 @@ class Form:
 
     def _content(self, lines: List[Line]) -> Content:
         """What the elements of these lines may have. An attribute is required if all of them require it."""
-        required = frozenset.intersection(*[self._required(line.parts[0]) for line in lines]) if lines else frozenset()
-        attributes: Dict[Name, Attribute] = {}
+        required = either([self._need(line.parts[0]) for line in lines]).attributes if lines else {}
+        attributes: Dict[Name, List[str]] = {}
         children: Dict[Name, None] = {}
-        has_text = is_open = False
         values: List[str] = []
         for part in self._reached([line.parts[0] for line in lines]):
             line = self._line(part.name) if part.kind in ("pattern", "element") else None
-            has_text |= part.kind in ("text", "data", "value")
             values += [part.text] if part.kind == "value" else []
-            if line is None:
-                continue
-            names = list(self.names(line.names))
-            if line.kind == "element":
-                children.update(dict.fromkeys(names))
-                is_open |= not names
-            for each in names if line.kind == "attribute" else ():
-                attributes[each] = joined(attributes.get(each), Attribute(each, each in required, *self._values(line.parts[0])))
-        return Content(tuple(attributes.values()), tuple(children), has_text, is_open, tuple(values))
+            if line is not None and line.kind == "element":
+                children.update(dict.fromkeys(self.names(line.names)))
+            for each in self.names(line.names) if line is not None and line.kind == "attribute" else ():
+                attributes.setdefault(each, []).append(part.name)
+        found = [self._attribute(name, lines_of, name in required) for name, lines_of in attributes.items()]
+        return Content(tuple(found), tuple(children), tuple(values))
+
+    def _attribute(self, name: Name, lines: Sequence[str], is_required: bool) -> Attribute:
+        """The attribute that these lines declare."""
+        return Attribute(name, is_required, *self._values([line.parts[0] for each in lines if (line := self._line(each)) is not None]))
 
     def _reached(self, waiting: List[Part]) -> Iterator[Part]:
         """These parts and all that they consist of, each once and in their order. What is inside elements and attributes is left out."""
@@ -147,40 +156,39 @@ class Form:
             if line is not None and line.kind != "attribute":
                 waiting += line.parts[:1] if line.kind == "-" else line.parts[::-1]
 
-    def _values(self, part: Part) -> Tuple[Tuple[str, ...], bool]:
-        """The values that a part lists, and whether it is a list of them."""
+    def _values(self, parts: List[Part]) -> Tuple[Tuple[str, ...], bool]:
+        """The values that parts list, and whether one is a list of them."""
         values: List[str] = []
         is_list = False
-        for each in self._reached([part]):
+        for each in self._reached(parts):
             line = self._line(each.name) if each.kind == "pattern" else None
             is_list |= line is not None and line.kind == "list"
             values += [each.text] if each.kind == "value" else BOOLEANS if each.kind == "data" and each.name == "xsd:boolean" else ()
         return tuple(dict.fromkeys(values)), is_list
 
-    def _required(self, part: Part) -> FrozenSet[Name]:
-        """The names of attributes that whatever matches the part has. What a part consists of is done before it."""
-        done: Dict[Part, FrozenSet[Name]] = {}
-        waiting = [part]
+    def _need(self, part: Part) -> Need:
+        """What each match of a part has. What a part consists of is done before it, and all that is done is kept."""
+        done, waiting = self._needs, [part]
         while waiting:
             each = waiting[-1]
             line = self._line(each.name) if each.kind == "pattern" else None
-            left = [inner for inner in line.parts if inner not in done] if line is not None and line.kind not in ("attribute", "list", "-") else []
+            left = [inner for inner in line.parts if inner not in done] if line is not None and line.kind in ("+", "|", ",", "&") else []
             if left and each not in done:
                 waiting += left
                 continue
-            done.setdefault(each, self._required_by(line, done))
+            done.setdefault(each, self._need_by(each, line))
             waiting.pop()
         return done[part]
 
-    def _required_by(self, line: Optional[Line], done: Dict[Part, FrozenSet[Name]]) -> FrozenSet[Name]:
-        """The same for a line, from what is known of its parts."""
-        if line is None or line.kind in ("element", "list", "-"):
-            return frozenset()
+    def _need_by(self, part: Part, line: Optional[Line]) -> Need:
+        """The same for a part, from what is known of those that it consists of."""
+        if line is None or line.kind in ("list", "-"):
+            return NO_NEED if part.kind in ("empty", "notAllowed") else FILLED
         if line.kind == "attribute":
             names = list(self.names(line.names))
-            return frozenset(names) if len(names) == 1 else frozenset()
-        each = [done[part] for part in line.parts]
-        return frozenset.intersection(*each) if line.kind == "|" else frozenset.union(*each)
+            return Need({names[0]: (part.name,)}, False) if len(names) == 1 else NO_NEED
+        needs = [self._needs[each] for each in line.parts]
+        return either(needs) if line.kind == "|" else both(needs)
 
     def names(self, written: Sequence[Token]) -> Iterator[Name]:
         """The names that a name class lists. None are listed of those that it has by `*` and except."""
@@ -223,11 +231,21 @@ class Form:
         return uri == name[0] and local in (name[1], "*")
 
 
-def joined(before: Optional[Attribute], found: Attribute) -> Attribute:
-    """An attribute that patterns declare twice: with the values of both."""
-    if before is None:
-        return found
-    return before._replace(values=tuple(dict.fromkeys((*before.values, *found.values))), is_list=before.is_list or found.is_list)
+def either(needs: Sequence[Need]) -> Need:
+    """What all of these have."""
+    shared = {name: tuple(dict.fromkeys(line for need in needs for line in need.attributes[name]))
+              for name in needs[0].attributes if all(name in need.attributes for need in needs[1:])}
+    is_filled = any(need.is_filled for need in needs)
+    return Need(shared, is_filled) if shared else FILLED if is_filled else NO_NEED
+
+
+def both(needs: Sequence[Need]) -> Need:
+    """What at least one of these has."""
+    filled = [need for need in needs if need.attributes]
+    if len(filled) == 1 and filled[0].is_filled >= any(need.is_filled for need in needs):
+        return filled[0]
+    merged = {name: lines for need in filled for name, lines in need.attributes.items()}
+    return Need(merged, any(need.is_filled for need in needs))
 
 
 @functools.lru_cache(maxsize=256)

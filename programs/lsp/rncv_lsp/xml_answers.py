@@ -3,6 +3,7 @@ from __future__ import annotations
 
 import os
 import re
+import threading
 from typing import Any, Callable, Dict, List, NamedTuple, Optional, Tuple
 
 from rncv_lsp.coordinator import Coordinator, Task, uri_of_file
@@ -38,22 +39,24 @@ class Kept(NamedTuple):
 
 
 class Cache:
-    """Values by key. Those that were asked for longest ago are dropped."""
+    """Values by key, for any thread: one makes a value, and others wait for it. Those that were asked for longest ago are dropped."""
 
     def __init__(self) -> None:
         self._known: Dict[Any, Any] = {}
+        self._lock = threading.Lock()
 
     def find(self, key: Any, make: Callable[[], Any]) -> Any:
         """The value of a key, which is made if there is none."""
-        value = self._known.pop(key) if key in self._known else make()
-        self._known[key] = value
-        while len(self._known) > MOST_SCHEMAS:
-            del self._known[next(iter(self._known))]
-        return value
+        with self._lock:
+            value = self._known.pop(key) if key in self._known else make()
+            self._known[key] = value
+            while len(self._known) > MOST_SCHEMAS:
+                del self._known[next(iter(self._known))]
+            return value
 
 
 class XmlAnswers:
-    """Answers about documents. Only the thread that reads messages uses it."""
+    """Answers about documents, to the thread that reads messages. Another one gets ready what is known of schemas."""
 
     def __init__(self, documents: Documents, coordinator: Coordinator) -> None:
         self._documents, self._coordinator = documents, coordinator
@@ -61,6 +64,7 @@ class XmlAnswers:
         self._expecting: Dict[str, Kept] = {}
         self._telling: Dict[str, Reading] = {}
         self.has_snippets = self.has_markdown = False
+        coordinator.prepare = self._prepare
 
     def forget(self, uri: str) -> None:
         """Forgets what belongs to a closed document."""
@@ -141,6 +145,11 @@ class XmlAnswers:
         """What is known of a schema."""
         form = self._forms.find(outcome.name, lambda: Form(outcome.validator.simple_text().decode("utf-8")))
         return Knowledge(form, self._declarations_of(task.schema))
+
+    def _prepare(self, task: Task) -> None:
+        """Gets ready what is known of the schema of a document."""
+        if task.outcome is not None and task.outcome.validator is not None:
+            self._knowledge(task, task.outcome).form.prepare()
 
     def _declarations_of(self, schema: SchemaSet) -> Declarations:
         """The declarations in a schema's files."""

@@ -8,10 +8,10 @@ from xml.sax.saxutils import escape, quoteattr
 
 from rncv_lsp.outside import rncv
 from rncv_lsp.schema_declarations import Declaration, Declarations
-from rncv_lsp.simple_form import BOOLEANS, XSD, Attribute, Content, Form, Name
-from rncv_lsp.texts import Text
+from rncv_lsp.simple_form import BOOLEANS, XSD, Attribute, Form, Name
+from rncv_lsp.texts import LINE_END, Text
 from rncv_lsp.xml_cursor import IN_TAG, Cursor
-from rncv_lsp.xml_reading import FIRST_SCOPE, XML_NAMESPACE, expanded
+from rncv_lsp.xml_reading import XML_NAMESPACE, expanded
 
 # Kinds of items of the protocol, and its number of a snippet.
 ELEMENT, ATTRIBUTE, VALUE, SNIPPET = 10, 5, 12, 2
@@ -44,6 +44,7 @@ class Completion:
     def __init__(self, asked: Asked, known: Optional[Knowledge]) -> None:
         self._asked, self._cursor, self._known = asked, asked.cursor, known
         self._items: List[Dict[str, Any]] = []
+        self._range = asked.lines.range(asked.cursor.start, asked.cursor.end, asked.encoding)
 
     def items(self) -> List[Dict[str, Any]]:
         """All items."""
@@ -64,8 +65,7 @@ class Completion:
 
     def _add(self, kind: int, label: str, words: str, **others: Any) -> None:
         """Adds an item that replaces what is at the cursor."""
-        place = self._asked.lines.range(self._cursor.start, self._cursor.end, self._asked.encoding)
-        item = {"label": label, "kind": kind, "sortText": f"{len(self._items):05}", "filterText": label, "textEdit": {"range": place, "newText": words}}
+        item = {"label": label, "kind": kind, "sortText": f"{len(self._items):05}", "filterText": label, "textEdit": {"range": self._range, "newText": words}}
         item.update({name: value for name, value in others.items() if value})
         self._items.append(item)
 
@@ -81,7 +81,7 @@ class Completion:
         """Adds the elements that may come."""
         for name in self._elements():
             written, declaration = self._written(name)
-            words, is_snippet = self._tag(bracket + written, declaration, self._known.form.content(name))
+            words, is_snippet = self._tag(bracket + written, declaration, name)
             self._add(ELEMENT, written, words, insertTextFormat=SNIPPET if is_snippet else 0, detail=name[0],
                       documentation=documentation_of(self._known.declarations.element(name, self._parent)))
 
@@ -104,29 +104,24 @@ class Completion:
 
     def _written(self, name: Name) -> Tuple[str, Dict[str, str]]:
         """How the name of an element is written here, and the declaration that it needs, if it needs one."""
-        uri, local = name
-        scope = self._cursor.open[-1].scope if self._cursor.open else FIRST_SCOPE
+        (uri, local), scope = name, self._cursor.scope
         typed = self._cursor.words.rpartition(":")[0] if self._cursor.kind == "element" else ""
         near = self._cursor.open[-1].name.rpartition(":")[0] if self._cursor.open else ""
         prefix = next((prefix for prefix in (typed, near, "", *scope) if scope.get(prefix) == uri), None)
         return (local, {"xmlns": uri}) if prefix is None else (f"{prefix}:{local}" if prefix else local, {})
 
-    def _tag(self, head: str, declared: Dict[str, str], content: Content) -> Tuple[str, bool]:
+    def _tag(self, head: str, declared: Dict[str, str], name: Name) -> Tuple[str, bool]:
         """The text of an element, and whether it is a snippet. In a tag that is there already only the name is written."""
         is_there = self._cursor.kind == "element" and IN_TAG.match(self._cursor.after)
-        name = head.lstrip("<")
+        tag, (attributes, is_filled) = head.lstrip("<"), self._known.form.need(name)
         head += "" if is_there else "".join(f" {each}={quoteattr(uri)}" for each, uri in declared.items())
         if is_there or not self._asked.has_snippets:
             return head, False
         scope = {**self._cursor.scope, **({"": uri for uri in declared.values()})}
-        parts, number = [literal(head)], 0
-        for attribute in content.attributes:
-            written = prefixed(attribute.name, scope) if attribute.is_required else None
-            if written is not None:
-                number += 1
-                parts.append(f' {literal(written)}="{place_for(attribute, number)}"')
-        ending = "/>$0" if content.is_empty else f">$0</{literal(name)}>"
-        return "".join([*parts, ending]), True
+        written = [(prefixed(attribute.name, scope), attribute) for attribute in attributes]
+        given = [(each, attribute) for each, attribute in written if each is not None]
+        places = "".join(f' {literal(each)}="{place_for(attribute, number)}"' for number, (each, attribute) in enumerate(given, 1))
+        return literal(head) + places + (f">$0</{literal(tag)}>" if is_filled else "/>$0"), True
 
     def _add_attributes(self) -> None:
         """Adds the attributes that the tag may have and has not."""
@@ -166,24 +161,23 @@ class Completion:
 
     def _add_values(self, values: Iterable[str], is_list: bool) -> None:
         """Adds values. In a list only the item at the cursor is replaced."""
-        before = len(self._cursor.words) - len(self._cursor.words.split(" ")[-1]) if is_list else 0
-        place = self._asked.lines.range(self._cursor.start + before, self._cursor.end, self._asked.encoding)
+        words = LINE_END.split(self._cursor.words)[-1]
+        begin = self._cursor.end if self._cursor.kind == "content" else self._cursor.start + len(words)
+        begin -= len(re.split("[ \t]", words)[-1]) if is_list else len(words.lstrip())
+        before, self._range = self._range, self._asked.lines.range(begin, self._cursor.end, self._asked.encoding)
         for value in values:
             self._add(VALUE, value, escape(value, {'"': "&quot;"}))
-            if is_list:
-                self._items[-1]["textEdit"]["range"] = place
+        self._range = before
 
     def _add_content(self) -> None:
         """Adds what may come between tags: elements where nothing is typed, and values."""
-        words, expected = self._cursor.words.lstrip(), self._asked.expected
+        expected = self._asked.expected
         if expected is not None:
             booleans = BOOLEANS if any(each == (XSD, "boolean") for each in expected.datatypes) else ()
-            order = self._known.form.content(self._parent).values
+            order = self._known.form.content(self._cursor.open[-1].expanded).values
             listed = sorted((value.text for value in expected.values), key=lambda text: order.index(text) if text in order else len(order))
-            values = dict.fromkeys([*listed, *booleans])
-            self._cursor = self._cursor._replace(start=self._cursor.start - len(words))
-            self._add_values(values, False)
-        if not words:
+            self._add_values(dict.fromkeys([*listed, *booleans]), False)
+        if not self._cursor.words.strip():
             self._add_elements("<")
 
 

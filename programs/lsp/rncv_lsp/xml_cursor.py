@@ -4,7 +4,7 @@ from __future__ import annotations
 import re
 from typing import Dict, NamedTuple, Tuple
 
-from rncv_lsp.texts import Text
+from rncv_lsp.texts import LINE_END, Text
 from rncv_lsp.xml_reading import FIRST_SCOPE, OpenElement, Reading, expanded, given_in, is_in_prolog, loosely_open, scope_in
 
 # How far a tag is searched for its end; and a text for its beginning, at first.
@@ -100,7 +100,7 @@ def in_tag(lines: Text, start: int, offset: int, open_elements: Tuple[OpenElemen
         # The cursor may be before a word that is no name of a tag.
         letters = letters if found[1] or IN_TAG.match(after[letters:]) else 0
         rest = after[letters:]
-        given = given_in(REST.match(rest)[0]) if kind == "element" else []
+        given = given_in(REST.match(rest)[0]) if kind == "element" and IN_TAG.match(rest) else []
         return Cursor(kind, start + found.start(1), offset + letters, found[1], open_elements, found[1] + after[:letters], "", tuple(given), rest)
     found = ATTRIBUTE.fullmatch(words)
     if found:
@@ -120,8 +120,9 @@ def in_value(start: int, words: str, after: str, found: "re.Match[str]", open_el
     is_closed = after[length:length + 1] == quote
     rest = after[length:] if is_closed else after
     given = given_in(words[:found.start(2)]) + given_in(REST.match(rest[1:])[0] if is_closed else "")
-    begin, end = start + found.start(group), start + len(words) + (length if is_closed else 0)
-    return Cursor("value", begin, end, found[group], open_elements, found[1], found[2], tuple(given), rest)
+    typed = LINE_END.split(found[group])[-1]  # an edit is in one line
+    end = start + len(words) + (length if is_closed else 0)
+    return Cursor("value", start + len(words) - len(typed), end, typed, open_elements, found[1], found[2], tuple(given), rest)
 
 
 def behind_value(rest: str) -> str:

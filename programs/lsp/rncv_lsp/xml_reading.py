@@ -13,7 +13,8 @@ XML_NAMESPACE = "http://www.w3.org/XML/1998/namespace"
 FIRST_SCOPE: Dict[str, str] = {"": "", "xml": XML_NAMESPACE}
 # At most so many characters are in one line of PYX, and so many are parsed at once.
 LINE_LENGTH, PART_LENGTH = 8_192, 262_144
-ESCAPED = str.maketrans({"\\": "\\\\", "\n": "\\n", "\t": "\\t"})
+# The bytes of UTF-8 that begin no character.
+CONTINUED = bytes(range(0x80, 0xC0))
 # What stands in a text that is not well formed: each of these has one beginning and one end, and what has no end goes to the end of the text.
 PIECE = re.compile(r"""<!--.*?(?:-->|\Z)|<!\[CDATA\[.*?(?:\]\]>|\Z)|<\?.*?(?:\?>|\Z)|<!(?:[^<>"']+|"[^"]*(?:"|\Z)|'[^']*(?:'|\Z))*>?|</?[^\s<>/&="'?!;]+"""
                    r"""(?:[^<>"']+|"[^"<]*(?:"|(?=<)|\Z)|'[^'<]*(?:'|(?=<)|\Z))*>?""", re.S)
@@ -41,10 +42,24 @@ def expanded(name: str, scope: Dict[str, str]) -> Tuple[str, str]:
     return scope.get(prefix, "\0"), local
 
 
+def escaped(words: str) -> str:
+    """A value or a text in PYX."""
+    if "\\" in words:
+        words = words.replace("\\", "\\\\")
+    if "\n" in words:
+        words = words.replace("\n", "\\n")
+    return words.replace("\t", "\\t") if "\t" in words else words
+
+
 def scope_in(scope: Dict[str, str], attributes: List[str]) -> Dict[str, str]:
     """The declarations in an element with these attributes, which are names and values in turn."""
+    for name in attributes[::2]:
+        if name.startswith("xmlns"):
+            break
+    else:
+        return scope
     declared = {name[6:]: value for name, value in zip(attributes[::2], attributes[1::2]) if name == "xmlns" or name.startswith("xmlns:")}
-    return {**scope, **declared} if declared else scope
+    return {**scope, **declared}
 
 
 class Reading:
@@ -55,8 +70,9 @@ class Reading:
         self.open: List[OpenElement] = []
         self.has_root = self.is_in_data = False
         self._document = validator.begin() if validator is not None else None
-        self._is_fed, self._fault_at, self._part = True, -1, (0, b"")
+        self._is_fed, self._fault_at = True, -1
         self._pyx: List[str] = []
+        self._add = self._pyx.append
         self._bytes = 0
         self._parser: Any = xml.parsers.expat.ParserCreate("UTF-8")
         self._prepare()
@@ -76,21 +92,25 @@ class Reading:
         """Takes a start tag."""
         open_elements = self.open
         scope = open_elements[-1].scope if open_elements else FIRST_SCOPE
-        open_elements.append(OpenElement(name, scope_in(scope, attributes) if attributes else scope))
-        self.has_root = True
-        self._pyx.append("(" + name)
-        for at in range(0, len(attributes), 2):
-            self._pyx.append(f"A{attributes[at]} {attributes[at + 1].translate(ESCAPED)}")
+        self._add("(" + name)
+        if attributes:
+            scope = scope_in(scope, attributes)
+            for each, value in zip(attributes[::2], attributes[1::2]):
+                self._add(f"A{each} {escaped(value)}")
+        open_elements.append(OpenElement(name, scope))
 
     def _end(self, name: str) -> None:
         """Takes an end tag."""
-        self.open.pop()
-        self._pyx.append(")" + name)
+        del self.open[-1]
+        self._add(")" + name)
 
     def _text(self, words: str) -> None:
         """Takes a text."""
+        if len(words) <= LINE_LENGTH:
+            self._add("-" + escaped(words))
+            return
         for at in range(0, len(words), LINE_LENGTH):
-            self._pyx.append("-" + words[at:at + LINE_LENGTH].translate(ESCAPED))
+            self._add("-" + escaped(words[at:at + LINE_LENGTH]))
 
     def _set_data(self, is_in_data: bool) -> None:
         """Takes the beginning or the end of a section CDATA."""
@@ -104,24 +124,25 @@ class Reading:
         """Reads on up to a place."""
         while self._fault_at < 0 and self.at < end:
             begin, self.at = self.at, min(self.at + PART_LENGTH, end)
-            self._parse(begin, lines.slice(begin, self.at))
-        self.lines = lines
+            self._parse(lines, begin)
+        self.lines, self.has_root = lines, self.has_root or bool(self._pyx)
         if self._pyx and self._pyx[-1][0] in "(A":
             self._pyx.append("?")  # the next line says that the tag has no more attributes
         if self._document is not None and self._pyx and self._is_fed:
             self._is_fed = self._document.feed(("\n".join(self._pyx) + "\n").encode("utf-8", "surrogatepass"))
-        self._pyx = []
+        self._pyx.clear()
 
-    def _parse(self, begin: int, words: str) -> None:
+    def _parse(self, lines: Text, begin: int) -> None:
         """Parses what follows."""
+        words = lines.slice(begin, self.at)
         words = words[1:] if begin == 0 and words.startswith("\ufeff") else words
         data = words.encode("utf-8", "surrogatepass")
         try:
             self._parser.Parse(data, False)
         except xml.parsers.expat.ExpatError:
-            # A fault is at a byte of this part, or in what the parser kept of those before it.
-            left = max(0, self._parser.ErrorByteIndex - self._bytes)
-            self._fault_at = self.at - len(words) + len(data[:left].decode("utf-8", "replace"))
+            # The fault is in these bytes, or in those that the parser kept.
+            ahead = self._parser.ErrorByteIndex - self._bytes
+            self._fault_at = self.at - len(words) + length(data[:ahead]) if ahead >= 0 else before(lines, begin, -ahead)
         self._bytes += len(data)
 
     def unfinished(self) -> int:
@@ -129,8 +150,7 @@ class Reading:
         left = self._bytes - self._parser.CurrentByteIndex if self.has_root and self._fault_at < 0 else 0
         if not 0 < left <= self._bytes:
             return self.at
-        data = self.lines.slice(self.at - left, self.at).encode("utf-8", "surrogatepass")
-        return self.at - len(data[-left:].decode("utf-8", "replace"))
+        return before(self.lines, self.at, left)
 
     @property
     def fault_at(self) -> Optional[int]:
@@ -147,6 +167,17 @@ class Reading:
         """Lets go of the validator."""
         if self._document is not None:
             self._document.close()
+
+
+def before(lines: Text, place: int, count: int) -> int:
+    """The place so many bytes before another one."""
+    data = lines.slice(place - count, place).encode("utf-8", "surrogatepass")
+    return place - length(data[-count:])
+
+
+def length(data: bytes) -> int:
+    """How many characters begin in these bytes of UTF-8."""
+    return len(data.translate(None, CONTINUED))
 
 
 def loosely_open(lines: Text, begin: int, end: int, open_elements: List[OpenElement]) -> Tuple[List[OpenElement], int]:
