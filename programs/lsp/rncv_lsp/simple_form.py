@@ -65,6 +65,7 @@ class Form:
 
     def __init__(self, text: str) -> None:
         self._lines: Dict[str, str] = {}
+        self._namespaces: Dict[str, str] = {}
         self._prefixes: Dict[str, str] = {"": "", "xml": "http://www.w3.org/XML/1998/namespace"}
         self._read: Dict[str, Optional[Line]] = {}
         self._known: Dict[Name, Content] = {}
@@ -72,10 +73,20 @@ class Form:
         for line in text.split("\n"):
             name, _, written = line.partition(" = ")
             if name.startswith("namespace "):
+                self._namespaces[name] = written
                 self._prefixes[name[10:]] = literal_of(written)
             else:
                 self._lines[name] = written
         self._named, self._wild = self._elements(text)
+
+    def schema_of_elements(self) -> str:
+        """The text of a schema whose documents are all elements of this one, as the root, with attributes left out."""
+        elements = [name for name in self._lines if name.startswith("e")]
+        while len(elements) > 1:  # a choice of choices is less deep than a list
+            elements = [f"({' | '.join(elements[at:at + 2])})" for at in range(0, len(elements), 2)]
+        namespaces = [f"{name} = {written}" for name, written in self._namespaces.items()]
+        lines = [f"{name} = {'empty' if written.startswith('attribute ') else written}" for name, written in self._lines.items() if name not in ("", "start")]
+        return "\n".join([*namespaces, f"start = {''.join(elements) or 'notAllowed'}", *lines]) + "\n"
 
     def _elements(self, text: str) -> Tuple[Dict[Name, List[str]], List[str]]:
         """The lines of elements with one name, by this name, and those of all others."""

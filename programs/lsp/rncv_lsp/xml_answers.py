@@ -6,6 +6,7 @@ import re
 import threading
 from typing import Any, Callable, Dict, List, NamedTuple, Optional, Tuple
 
+from rncv_lsp import DATATYPES
 from rncv_lsp.coordinator import Coordinator, Task, uri_of_file
 from rncv_lsp.documents import Document, Documents
 from rncv_lsp.outside import rncv
@@ -16,8 +17,8 @@ from rncv_lsp.schemas import Outcome, name_of
 from rncv_lsp.settings import is_in
 from rncv_lsp.simple_form import Form
 from rncv_lsp.xml_completion import Asked, Completion, Knowledge, attribute_name
-from rncv_lsp.xml_cursor import Cursor, cursor_at, end_of_name
-from rncv_lsp.xml_reading import Reading, expanded
+from rncv_lsp.xml_cursor import Cursor, boundary, cursor_at, end_of_name
+from rncv_lsp.xml_reading import OpenElement, Reading, expanded
 
 CAPABILITIES = {
     "completionProvider": {"triggerCharacters": ["<", "/", " ", '"', "'"]},
@@ -31,11 +32,12 @@ MOST_SCHEMAS, MOST_LINES, MOST_SHOWN = 8, 12, 3
 
 
 class Kept(NamedTuple):
-    """A reading that is kept for the next question about its document, and the schema by which it reads."""
+    """A reading that is kept for the next question about its document, and the schema by which it reads; and the element, if it is inside of one."""
 
     schema: str
     validator: Optional[rncv.Validator]
     reading: Reading
+    inside: Optional[OpenElement] = None
 
 
 class Cache:
@@ -60,15 +62,16 @@ class XmlAnswers:
 
     def __init__(self, documents: Documents, coordinator: Coordinator) -> None:
         self._documents, self._coordinator = documents, coordinator
-        self._forms, self._declarations = Cache(), Cache()
-        self._expecting: Dict[str, Kept] = {}
+        self._forms, self._declarations, self._elements = Cache(), Cache(), Cache()
+        self._expecting: Dict[Tuple[str, bool], Kept] = {}
         self._telling: Dict[str, Reading] = {}
         self.has_snippets = self.has_markdown = False
         coordinator.prepare = self._prepare
 
     def forget(self, uri: str) -> None:
         """Forgets what belongs to a closed document."""
-        self._expecting.pop(uri, None)
+        self._expecting.pop((uri, False), None)
+        self._expecting.pop((uri, True), None)
         self._telling.pop(uri, None)
 
     def completion(self, params: Any) -> Any:
@@ -78,7 +81,7 @@ class XmlAnswers:
             return None
         task = self._coordinator.task_of(document.uri)
         outcome = task.outcome if task is not None else None
-        reading = self._reading_by(document, outcome, offset)
+        reading = self._reading_by(document, outcome.name if outcome is not None else "", offset, outcome.validator if outcome is not None else None)
         cursor = cursor_at(reading, document.lines, offset)
         asked_by = params.get("context")
         is_by_character = isinstance(asked_by, dict) and asked_by.get("triggerKind") == BY_CHARACTER
@@ -86,6 +89,8 @@ class XmlAnswers:
             return None
         known = self._knowledge(task, outcome) if task is not None and outcome is not None else None
         expected = reading.expected() if known is not None and cursor.kind in ("element", "content") else None
+        if known is not None and expected is None and cursor.kind in ("element", "content") and cursor.open:
+            expected = self._expected_inside(document, outcome, cursor.open[-1], offset)
         asked = Asked(document.lines, cursor, expected, self._documents.encoding, self.has_snippets)
         return {"isIncomplete": task is None, "items": Completion(asked, known).items()}
 
@@ -119,20 +124,28 @@ class XmlAnswers:
             return None, 0
         return document, document.lines.offset(line, character, self._documents.encoding)
 
-    def _reading_by(self, document: Document, outcome: Optional[Outcome], offset: int) -> Reading:
-        """A reading of the document by its schema: the one that is kept, if it can go on."""
-        name = outcome.name if outcome is not None else ""
-        kept = self._expecting.get(document.uri)
-        if kept is not None and kept.schema == name and kept.reading.continues(document.lines, offset):
+    def _reading_by(self, document: Document, schema: str, offset: int, validator: Optional[rncv.Validator], inside: Optional[OpenElement] = None) -> Reading:
+        """A reading of the document by a schema, or of an element in it: the one that is kept, if it can go on."""
+        key = document.uri, inside is not None
+        kept = self._expecting.get(key)
+        is_like = kept is not None and kept.schema == schema
+        if is_like and kept.inside == inside and kept.reading.continues(document.lines, offset):
             return kept.reading
-        validator = kept.validator if kept is not None and kept.schema == name else None
         if kept is not None:
             kept.reading.close()
-        if validator is None and outcome is not None and outcome.validator is not None:
-            validator = outcome.validator.share()
-        kept = Kept(name, validator, Reading(validator))
-        self._expecting[document.uri] = kept
+        own = kept.validator if is_like else validator.share() if validator is not None else None
+        kept = Kept(schema, own, Reading(own, inside), inside)
+        self._expecting[key] = kept
         return kept.reading
+
+    def _expected_inside(self, document: Document, outcome: Outcome, inside: OpenElement, offset: int) -> Optional[rncv.Expected]:
+        """What may come next in an element of a document that is not valid, if only this element counts, without attributes."""
+        validator = self._elements.find(outcome.name, lambda: elements_by(self._form(outcome)))
+        if validator is None:
+            return None
+        reading = self._reading_by(document, outcome.name, offset, validator, inside)
+        reading.advance(document.lines, boundary(document.lines, offset))
+        return reading.expected()
 
     def _reading(self, document: Document, offset: int) -> Reading:
         """A reading of the document for its open elements alone. It leaves the other one where the client types."""
@@ -143,13 +156,17 @@ class XmlAnswers:
 
     def _knowledge(self, task: Task, outcome: Outcome) -> Knowledge:
         """What is known of a schema."""
-        form = self._forms.find(outcome.name, lambda: Form(outcome.validator.simple_text().decode("utf-8")))
-        return Knowledge(form, self._declarations_of(task.schema))
+        return Knowledge(self._form(outcome), self._declarations_of(task.schema))
+
+    def _form(self, outcome: Outcome) -> Form:
+        """The simple form of a schema."""
+        return self._forms.find(outcome.name, lambda: Form(outcome.validator.simple_text().decode("utf-8")))
 
     def _prepare(self, task: Task) -> None:
         """Gets ready what is known of the schema of a document."""
         if task.outcome is not None and task.outcome.validator is not None:
             self._knowledge(task, task.outcome).form.prepare()
+            self._elements.find(task.outcome.name, lambda: elements_by(self._form(task.outcome)))
 
     def _declarations_of(self, schema: SchemaSet) -> Declarations:
         """The declarations in a schema's files."""
@@ -182,6 +199,14 @@ class XmlAnswers:
             return "\n\n".join(filter(None, (place, declaration.documentation, source)))
         fence = "`" * max(3, *(len(run) + 1 for run in re.findall("`+", source) or [""]))
         return "\n\n".join(filter(None, (f"`{place}`", declaration.documentation, f"{fence}rnc\n{source}\n{fence}")))
+
+
+def elements_by(form: Form) -> Optional[rncv.Validator]:
+    """A validator for all elements of a schema, without attributes; None if it would be too large."""
+    try:
+        return rncv.compile({"elements": form.schema_of_elements().encode("utf-8")}, datatypes=DATATYPES[0])
+    except (rncv.SchemaError, MemoryError):
+        return None
 
 
 def cut_source(source: str) -> str:

@@ -25,10 +25,11 @@ PROLOG = re.compile(r"""<!--.*?(?:-->|\Z)|<\?.*?(?:\?>|\Z)|<!DOCTYPE|"[^"]*(?:"|
 
 
 class OpenElement(NamedTuple):
-    """An element that is open: its name as it is written, and the declarations that hold in it, as URIs by prefix."""
+    """An element that is open: its name as it is written, the declarations that hold in it, as URIs by prefix, and where its tag begins."""
 
     name: str
     scope: Dict[str, str]
+    start: int
 
     @property
     def expanded(self) -> Tuple[str, str]:
@@ -63,17 +64,20 @@ def scope_in(scope: Dict[str, str], attributes: List[str]) -> Dict[str, str]:
 
 
 class Reading:
-    """What was read of a document. Without a validator only the open elements are known."""
+    """What was read of a document. Without a validator only the open elements are known. With `inside` only that element is read, and attributes are left out,
+    for a schema that has none: what is wrong around it, or with attributes, does not count."""
 
-    def __init__(self, validator: Optional[rncv.Validator] = None) -> None:
-        self.lines, self.at = Text(), 0
+    def __init__(self, validator: Optional[rncv.Validator] = None, inside: Optional[OpenElement] = None) -> None:
+        self.lines, self.at = Text(), inside.start if inside is not None else 0
         self.open: List[OpenElement] = []
         self.has_root = self.is_in_data = False
+        self._inside = inside
         self._document = validator.begin() if validator is not None else None
         self._is_fed, self._fault_at = True, -1
         self._pyx: List[str] = []
         self._add = self._pyx.append
-        self._bytes = 0
+        # How many bytes were parsed, those that are parsed now, and how many of these have so many characters before them.
+        self._bytes, self._data, self._counted = 0, b"", (0, 0)
         self._parser: Any = xml.parsers.expat.ParserCreate("UTF-8")
         self._prepare()
 
@@ -83,7 +87,7 @@ class Reading:
         parser.buffer_text, parser.ordered_attributes = True, True
         if hasattr(parser, "SetReparseDeferralEnabled"):
             parser.SetReparseDeferralEnabled(False)
-        parser.StartElementHandler, parser.EndElementHandler = self._start, self._end
+        parser.StartElementHandler, parser.EndElementHandler = self._start if self._inside is None else self._start_inside, self._end
         parser.StartCdataSectionHandler, parser.EndCdataSectionHandler = (lambda: self._set_data(True)), (lambda: self._set_data(False))
         if self._document is not None:
             parser.CharacterDataHandler = self._text
@@ -97,7 +101,25 @@ class Reading:
             scope = scope_in(scope, attributes)
             for each, value in zip(attributes[::2], attributes[1::2]):
                 self._add(f"A{each} {escaped(value)}")
-        open_elements.append(OpenElement(name, scope))
+        open_elements.append(OpenElement(name, scope, self._place()))
+
+    def _start_inside(self, name: str, attributes: List[str]) -> None:
+        """Takes a start tag without its attributes. The first one gets all declarations that hold in it."""
+        outer = self.open[-1].scope if self.open else {}
+        scope = scope_in(outer, attributes) if self.open else self._inside.scope
+        self._add("(" + name)
+        for prefix, uri in scope.items() if scope is not outer else ():
+            if prefix != "xml":
+                self._add(f"Axmlns{':' if prefix else ''}{prefix} {escaped(uri)}")
+        self.open.append(OpenElement(name, scope, self._place()))
+
+    def _place(self) -> int:
+        """Where the tag begins that the parser has read."""
+        ahead, (counted, place) = self._parser.CurrentByteIndex - self._bytes, self._counted
+        if ahead < counted:  # the tag began in a part that was parsed before
+            return before(self.lines, place, counted - ahead)
+        self._counted = ahead, place + length(self._data[counted:ahead])
+        return self._counted[1]
 
     def _end(self, name: str) -> None:
         """Takes an end tag."""
@@ -122,28 +144,29 @@ class Reading:
 
     def advance(self, lines: Text, end: int) -> None:
         """Reads on up to a place."""
+        self.lines = lines
         while self._fault_at < 0 and self.at < end:
             begin, self.at = self.at, min(self.at + PART_LENGTH, end)
-            self._parse(lines, begin)
-        self.lines, self.has_root = lines, self.has_root or bool(self._pyx)
+            self._parse(begin)
+        self.has_root = self.has_root or bool(self._pyx)
         if self._pyx and self._pyx[-1][0] in "(A":
             self._pyx.append("?")  # the next line says that the tag has no more attributes
         if self._document is not None and self._pyx and self._is_fed:
             self._is_fed = self._document.feed(("\n".join(self._pyx) + "\n").encode("utf-8", "surrogatepass"))
         self._pyx.clear()
 
-    def _parse(self, lines: Text, begin: int) -> None:
-        """Parses what follows."""
-        words = lines.slice(begin, self.at)
+    def _parse(self, begin: int) -> None:
+        """Parses what follows a place. A byte order mark is left out."""
+        words = self.lines.slice(begin, self.at)
         words = words[1:] if begin == 0 and words.startswith("\ufeff") else words
-        data = words.encode("utf-8", "surrogatepass")
+        self._data, self._counted = words.encode("utf-8", "surrogatepass"), (0, self.at - len(words))
         try:
-            self._parser.Parse(data, False)
+            self._parser.Parse(self._data, False)
         except xml.parsers.expat.ExpatError:
             # The fault is in these bytes, or in those that the parser kept.
             ahead = self._parser.ErrorByteIndex - self._bytes
-            self._fault_at = self.at - len(words) + length(data[:ahead]) if ahead >= 0 else before(lines, begin, -ahead)
-        self._bytes += len(data)
+            self._fault_at = self.at - len(words) + length(self._data[:ahead]) if ahead >= 0 else before(self.lines, begin, -ahead)
+        self._bytes += len(self._data)
 
     def unfinished(self) -> int:
         """Where the markup begins that is not finished at the place up to which was read; that place if there is none."""
@@ -194,7 +217,8 @@ def loosely_open(lines: Text, begin: int, end: int, open_elements: List[OpenElem
             at = next((at for at in reversed(range(len(stack))) if stack[at].name == named[1]), len(stack))
             del stack[at:]
         elif not words.endswith("/>"):
-            stack.append(OpenElement(named[1], scope_in(stack[-1].scope if stack else FIRST_SCOPE, given_in(words))))
+            scope = scope_in(stack[-1].scope if stack else FIRST_SCOPE, given_in(words))
+            stack.append(OpenElement(named[1], scope, begin + found.start()))
     return stack, last
 
 
