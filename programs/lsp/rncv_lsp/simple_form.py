@@ -70,6 +70,7 @@ class Form:
         self._read: Dict[str, Optional[Line]] = {}
         self._known: Dict[Name, Content] = {}
         self._needs: Dict[Part, Need] = {}
+        self._needed: "Dict[Name, Tuple[Tuple[Attribute, ...], bool]]" = {}
         for line in text.split("\n"):
             name, _, written = line.partition(" = ")
             if name.startswith("namespace "):
@@ -119,14 +120,16 @@ class Form:
 
     def prepare(self) -> None:
         """Gets ready what `need` tells."""
-        for name in self._named if not self._needs else ():
+        for name in self._named if not self._needed else ():
             self.need(name)
 
     def need(self, name: Name) -> "Tuple[Tuple[Attribute, ...], bool]":
         """The attributes that each element of this name has, and whether such elements may have anything between their tags."""
-        needs = [self._need(line.parts[0]) for line in self._lines_for(name)]
-        merged = either(needs) if needs else FILLED
-        return tuple(self._attribute(each, lines, True) for each, lines in merged.attributes.items()), merged.is_filled
+        if name not in self._needed:
+            needs = [self._need(line.parts[0]) for line in self._lines_for(name)]
+            merged = either(needs) if needs else FILLED
+            self._needed[name] = tuple(self._attribute(each, lines, True) for each, lines in merged.attributes.items()), merged.is_filled
+        return self._needed[name]
 
     def content(self, name: Name) -> Content:
         """What elements of this name may have."""

@@ -18,6 +18,7 @@ from rncv_lsp.settings import is_in
 from rncv_lsp.simple_form import Form
 from rncv_lsp.xml_completion import Asked, Completion, Knowledge, attribute_name
 from rncv_lsp.xml_cursor import Cursor, boundary, cursor_at, end_of_name
+from rncv_lsp.xml_feeds import EventFeed, PyxFeed
 from rncv_lsp.xml_reading import OpenElement, Reading, expanded
 
 CAPABILITIES = {
@@ -80,17 +81,12 @@ class XmlAnswers:
         if document is None:
             return None
         task = self._coordinator.task_of(document.uri)
-        outcome = task.outcome if task is not None else None
-        reading = self._reading_by(document, outcome.name if outcome is not None else "", offset, outcome.validator if outcome is not None else None)
-        cursor = cursor_at(reading, document.lines, offset)
+        cursor, expected = self._expected(document, task.outcome if task is not None else None, offset)
         asked_by = params.get("context")
         is_by_character = isinstance(asked_by, dict) and asked_by.get("triggerKind") == BY_CHARACTER
         if cursor.kind == "content" and is_by_character and asked_by.get("triggerCharacter") in ONLY_IN_TAGS:
             return None
-        known = self._knowledge(task, outcome) if task is not None and outcome is not None else None
-        expected = reading.expected() if known is not None and cursor.kind in ("element", "content") else None
-        if known is not None and expected is None and cursor.kind in ("element", "content") and cursor.open:
-            expected = self._expected_inside(document, outcome, cursor.open[-1], offset)
+        known = self._knowledge(task) if task is not None and task.outcome is not None else None
         asked = Asked(document.lines, cursor, expected, self._documents.encoding, self.has_snippets)
         return {"isIncomplete": task is None, "items": Completion(asked, known).items()}
 
@@ -124,28 +120,48 @@ class XmlAnswers:
             return None, 0
         return document, document.lines.offset(line, character, self._documents.encoding)
 
-    def _reading_by(self, document: Document, schema: str, offset: int, validator: Optional[rncv.Validator], inside: Optional[OpenElement] = None) -> Reading:
-        """A reading of the document by a schema, or of an element in it: the one that is kept, if it can go on."""
-        key = document.uri, inside is not None
-        kept = self._expecting.get(key)
+    def _expected(self, document: Document, outcome: Optional[Outcome], offset: int) -> Tuple[Cursor, Optional[rncv.Expected]]:
+        """What is at a place, and what may come there, if that is known. If the document is not valid, only the innermost element counts."""
+        try:
+            reading = self._reading_by(document, outcome, offset)
+            cursor = cursor_at(reading, document.lines, offset)
+            if reading.feed.is_refused:  # it may be over a limit of PYX, and then it is read in another way
+                reading = self._reading_by(document, outcome, offset)
+                cursor = cursor_at(reading, document.lines, offset)
+            if outcome is None or cursor.kind not in ("element", "content"):
+                return cursor, None
+            expected = reading.expected()
+            if expected is None and cursor.open:
+                reading = self._reading_by(document, outcome, offset, cursor.open[-1])
+                reading.advance(document.lines, boundary(document.lines, offset))
+                expected = reading.expected()
+            return cursor, expected
+        except MemoryError:
+            self.forget(document.uri)
+            raise
+
+    def _reading_by(self, document: Document, outcome: Optional[Outcome], offset: int, inside: Optional[OpenElement] = None) -> Reading:
+        """A reading of the document by its schema, or of an element in it: the one that is kept, if it can go on."""
+        key, schema = (document.uri, inside is not None), outcome.name if outcome is not None else ""
+        kept = self._expecting.pop(key, None)
         is_like = kept is not None and kept.schema == schema
-        if is_like and kept.inside == inside and kept.reading.continues(document.lines, offset):
+        is_refused = is_like and kept.reading.feed.is_refused and isinstance(kept.reading.feed, PyxFeed)
+        if is_like and not is_refused and kept.inside == inside and kept.reading.continues(document.lines, offset):
+            self._expecting[key] = kept
             return kept.reading
         if kept is not None:
-            kept.reading.close()
-        own = kept.validator if is_like else validator.share() if validator is not None else None
-        kept = Kept(schema, own, Reading(own, inside), inside)
-        self._expecting[key] = kept
-        return kept.reading
+            kept.reading.feed.close()
+        own = kept.validator if is_like else self._validator(outcome, inside is not None)
+        feed = None if own is None else EventFeed(own) if is_refused else PyxFeed(own)
+        self._expecting[key] = Kept(schema, own, Reading(feed, inside), inside)
+        return self._expecting[key].reading
 
-    def _expected_inside(self, document: Document, outcome: Outcome, inside: OpenElement, offset: int) -> Optional[rncv.Expected]:
-        """What may come next in an element of a document that is not valid, if only this element counts, without attributes."""
-        validator = self._elements.find(outcome.name, lambda: elements_by(self._form(outcome)))
-        if validator is None:
+    def _validator(self, outcome: Optional[Outcome], is_inside: bool) -> Optional[rncv.Validator]:
+        """Another validator by a schema, or by that of its elements."""
+        if outcome is None or outcome.validator is None:
             return None
-        reading = self._reading_by(document, outcome.name, offset, validator, inside)
-        reading.advance(document.lines, boundary(document.lines, offset))
-        return reading.expected()
+        found = self._elements.find(outcome.name, lambda: elements_by(self._form(outcome))) if is_inside else outcome.validator
+        return found.share() if found is not None else None
 
     def _reading(self, document: Document, offset: int) -> Reading:
         """A reading of the document for its open elements alone. It leaves the other one where the client types."""
@@ -154,9 +170,9 @@ class XmlAnswers:
             reading = self._telling[document.uri] = Reading()
         return reading
 
-    def _knowledge(self, task: Task, outcome: Outcome) -> Knowledge:
-        """What is known of a schema."""
-        return Knowledge(self._form(outcome), self._declarations_of(task.schema))
+    def _knowledge(self, task: Task) -> Knowledge:
+        """What is known of the schema of a document."""
+        return Knowledge(self._form(task.outcome), self._declarations_of(task.schema))
 
     def _form(self, outcome: Outcome) -> Form:
         """The simple form of a schema."""
@@ -165,7 +181,7 @@ class XmlAnswers:
     def _prepare(self, task: Task) -> None:
         """Gets ready what is known of the schema of a document."""
         if task.outcome is not None and task.outcome.validator is not None:
-            self._knowledge(task, task.outcome).form.prepare()
+            self._knowledge(task).form.prepare()
             self._elements.find(task.outcome.name, lambda: elements_by(self._form(task.outcome)))
 
     def _declarations_of(self, schema: SchemaSet) -> Declarations:

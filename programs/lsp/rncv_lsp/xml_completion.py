@@ -16,6 +16,9 @@ from rncv_lsp.xml_reading import XML_NAMESPACE, expanded
 # Kinds of items of the protocol, and its number of a snippet.
 ELEMENT, ATTRIBUTE, VALUE, SNIPPET = 10, 5, 12, 2
 MOST_ITEMS = 2_000
+# What is written in values, and in content, for characters that a parser would change or that would end the value.
+IN_QUOTES = {'"': "&quot;", "'": "&apos;", "\t": "&#9;", "\n": "&#10;", "\r": "&#13;"}
+IN_CONTENT = {"\r": "&#13;"}
 PLAIN = re.compile(r"[-\w.:#+/ ]+")
 
 
@@ -44,6 +47,7 @@ class Completion:
     def __init__(self, asked: Asked, known: Optional[Knowledge]) -> None:
         self._asked, self._cursor, self._known = asked, asked.cursor, known
         self._items: List[Dict[str, Any]] = []
+        self._scope = asked.cursor.scope
         self._range = asked.lines.range(asked.cursor.start, asked.cursor.end, asked.encoding)
 
     def items(self) -> List[Dict[str, Any]]:
@@ -104,7 +108,7 @@ class Completion:
 
     def _written(self, name: Name) -> Tuple[str, Dict[str, str]]:
         """How the name of an element is written here, and the declaration that it needs, if it needs one."""
-        (uri, local), scope = name, self._cursor.scope
+        (uri, local), scope = name, self._scope
         typed = self._cursor.words.rpartition(":")[0] if self._cursor.kind == "element" else ""
         near = self._cursor.open[-1].name.rpartition(":")[0] if self._cursor.open else ""
         prefix = next((prefix for prefix in (typed, near, "", *scope) if scope.get(prefix) == uri), None)
@@ -117,8 +121,7 @@ class Completion:
         head += "" if is_there else "".join(f" {each}={quoteattr(uri)}" for each, uri in declared.items())
         if is_there or not self._asked.has_snippets:
             return head, False
-        scope = {**self._cursor.scope, **({"": uri for uri in declared.values()})}
-        written = [(prefixed(attribute.name, scope), attribute) for attribute in attributes]
+        written = [(prefixed(attribute.name, self._scope), attribute) for attribute in attributes]
         given = [(each, attribute) for each, attribute in written if each is not None]
         places = "".join(f' {literal(each)}="{place_for(attribute, number)}"' for number, (each, attribute) in enumerate(given, 1))
         return literal(head) + places + (f">$0</{literal(tag)}>" if is_filled else "/>$0"), True
@@ -126,7 +129,7 @@ class Completion:
     def _add_attributes(self) -> None:
         """Adds the attributes that the tag may have and has not."""
         cursor, known = self._cursor, self._known
-        scope = cursor.scope
+        scope = self._scope
         there = {attribute_name(name, scope) for name in cursor.given[::2]}
         found = [each for each in known.form.content(cursor.element).attributes if each.name not in there]
         is_alone = not cursor.after.lstrip().startswith("=")
@@ -166,7 +169,7 @@ class Completion:
         begin -= len(re.split("[ \t]", words)[-1]) if is_list else len(words.lstrip())
         before, self._range = self._range, self._asked.lines.range(begin, self._cursor.end, self._asked.encoding)
         for value in values:
-            self._add(VALUE, value, escape(value, {'"': "&quot;"}))
+            self._add(VALUE, value, escape(value, IN_QUOTES if self._cursor.kind == "value" else IN_CONTENT))
         self._range = before
 
     def _add_content(self) -> None:

@@ -8,11 +8,12 @@ from typing import Any, Dict, List, NamedTuple, Optional, Tuple
 
 from rncv_lsp.outside import rncv
 from rncv_lsp.texts import Text
+from rncv_lsp.xml_feeds import Feed
 
 XML_NAMESPACE = "http://www.w3.org/XML/1998/namespace"
 FIRST_SCOPE: Dict[str, str] = {"": "", "xml": XML_NAMESPACE}
-# At most so many characters are in one line of PYX, and so many are parsed at once.
-LINE_LENGTH, PART_LENGTH = 8_192, 262_144
+# How many characters are parsed at once.
+PART_LENGTH = 262_144
 # The bytes of UTF-8 that begin no character.
 CONTINUED = bytes(range(0x80, 0xC0))
 # What stands in a text that is not well formed: each of these has one beginning and one end, and what has no end goes to the end of the text.
@@ -43,15 +44,6 @@ def expanded(name: str, scope: Dict[str, str]) -> Tuple[str, str]:
     return scope.get(prefix, "\0"), local
 
 
-def escaped(words: str) -> str:
-    """A value or a text in PYX."""
-    if "\\" in words:
-        words = words.replace("\\", "\\\\")
-    if "\n" in words:
-        words = words.replace("\n", "\\n")
-    return words.replace("\t", "\\t") if "\t" in words else words
-
-
 def scope_in(scope: Dict[str, str], attributes: List[str]) -> Dict[str, str]:
     """The declarations in an element with these attributes, which are names and values in turn."""
     for name in attributes[::2]:
@@ -64,18 +56,15 @@ def scope_in(scope: Dict[str, str], attributes: List[str]) -> Dict[str, str]:
 
 
 class Reading:
-    """What was read of a document. Without a validator only the open elements are known. With `inside` only that element is read, and attributes are left out,
-    for a schema that has none: what is wrong around it, or with attributes, does not count."""
+    """What was read of a document, and handed on by a feed. With `inside` only that element is read, and attributes are left out, for a schema that has none:
+    what is wrong around it, or with attributes, does not count."""
 
-    def __init__(self, validator: Optional[rncv.Validator] = None, inside: Optional[OpenElement] = None) -> None:
+    def __init__(self, feed: Optional[Feed] = None, inside: Optional[OpenElement] = None) -> None:
         self.lines, self.at = Text(), inside.start if inside is not None else 0
         self.open: List[OpenElement] = []
         self.has_root = self.is_in_data = False
-        self._inside = inside
-        self._document = validator.begin() if validator is not None else None
-        self._is_fed, self._fault_at = True, -1
-        self._pyx: List[str] = []
-        self._add = self._pyx.append
+        self.feed, self._inside = feed or Feed(), inside
+        self._fault_at = -1
         # How many bytes were parsed, those that are parsed now, and how many of these have so many characters before them.
         self._bytes, self._data, self._counted = 0, b"", (0, 0)
         self._parser: Any = xml.parsers.expat.ParserCreate("UTF-8")
@@ -89,29 +78,27 @@ class Reading:
             parser.SetReparseDeferralEnabled(False)
         parser.StartElementHandler, parser.EndElementHandler = self._start if self._inside is None else self._start_inside, self._end
         parser.StartCdataSectionHandler, parser.EndCdataSectionHandler = (lambda: self._set_data(True)), (lambda: self._set_data(False))
-        if self._document is not None:
-            parser.CharacterDataHandler = self._text
+        if self.feed.document is not None:
+            parser.CharacterDataHandler = self.feed.text
 
     def _start(self, name: str, attributes: List[str]) -> None:
         """Takes a start tag."""
         open_elements = self.open
         scope = open_elements[-1].scope if open_elements else FIRST_SCOPE
-        self._add("(" + name)
         if attributes:
             scope = scope_in(scope, attributes)
-            for each, value in zip(attributes[::2], attributes[1::2]):
-                self._add(f"A{each} {escaped(value)}")
         open_elements.append(OpenElement(name, scope, self._place()))
+        self.has_root = True
+        self.feed.start(name, attributes, scope)
 
     def _start_inside(self, name: str, attributes: List[str]) -> None:
         """Takes a start tag without its attributes. The first one gets all declarations that hold in it."""
         outer = self.open[-1].scope if self.open else {}
         scope = scope_in(outer, attributes) if self.open else self._inside.scope
-        self._add("(" + name)
-        for prefix, uri in scope.items() if scope is not outer else ():
-            if prefix != "xml":
-                self._add(f"Axmlns{':' if prefix else ''}{prefix} {escaped(uri)}")
+        declared = [(prefix, uri) for prefix, uri in scope.items() if prefix != "xml"] if scope is not outer else []
         self.open.append(OpenElement(name, scope, self._place()))
+        self.has_root = True
+        self.feed.start(name, [word for prefix, uri in declared for word in (f"xmlns:{prefix}" if prefix else "xmlns", uri)], scope)
 
     def _place(self) -> int:
         """Where the tag begins that the parser has read."""
@@ -124,15 +111,7 @@ class Reading:
     def _end(self, name: str) -> None:
         """Takes an end tag."""
         del self.open[-1]
-        self._add(")" + name)
-
-    def _text(self, words: str) -> None:
-        """Takes a text."""
-        if len(words) <= LINE_LENGTH:
-            self._add("-" + escaped(words))
-            return
-        for at in range(0, len(words), LINE_LENGTH):
-            self._add("-" + escaped(words[at:at + LINE_LENGTH]))
+        self.feed.end(name)
 
     def _set_data(self, is_in_data: bool) -> None:
         """Takes the beginning or the end of a section CDATA."""
@@ -148,12 +127,7 @@ class Reading:
         while self._fault_at < 0 and self.at < end:
             begin, self.at = self.at, min(self.at + PART_LENGTH, end)
             self._parse(begin)
-        self.has_root = self.has_root or bool(self._pyx)
-        if self._pyx and self._pyx[-1][0] in "(A":
-            self._pyx.append("?")  # the next line says that the tag has no more attributes
-        if self._document is not None and self._pyx and self._is_fed:
-            self._is_fed = self._document.feed(("\n".join(self._pyx) + "\n").encode("utf-8", "surrogatepass"))
-        self._pyx.clear()
+        self.feed.flush()
 
     def _parse(self, begin: int) -> None:
         """Parses what follows a place. A byte order mark is left out."""
@@ -182,14 +156,7 @@ class Reading:
 
     def expected(self) -> Optional[rncv.Expected]:
         """What may come next; None if that is not known, since the document is not valid before that, or is not well formed."""
-        if self._document is None or not self._is_fed or self._fault_at >= 0 or self._document.invalid_since() is not None:
-            return None
-        return self._document.expected()
-
-    def close(self) -> None:
-        """Lets go of the validator."""
-        if self._document is not None:
-            self._document.close()
+        return self.feed.expected() if self._fault_at < 0 else None
 
 
 def before(lines: Text, place: int, count: int) -> int:

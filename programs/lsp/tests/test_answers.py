@@ -202,6 +202,12 @@ class Broken(Asking):
         self.assertEqual(self.labels(f"{BEGIN}& <!-- <|"), [])
         self.assertEqual(self.labels(f"{BEGIN}<para <done |"), [])
 
+    def test_more_than_pyx_takes(self):
+        self.write("deep.rnc", "start = a a = element a { a?, element b { empty }? }")
+        self.assertEqual(self.labels(f'<?xml-model href="deep.rnc"?>{"<a>" * 600}<a/><|'), ["b", "/a"])
+        self.assertEqual(self.labels(f"{MODEL}<letter xmlns='urn:l' to='Ada' kind='{'new ' * 20_000}'><end/><|"), ["/letter"])
+        self.assertEqual(self.labels(f"{BEGIN}<para>{'x' * 1_100_000}</para><end/><|"), ["/letter"])
+
     def test_an_unknown_prefix(self):
         self.assertEqual(self.labels(f"{MODEL}<p:letter><|"), ["/p:letter"])
         self.assertEqual(self.labels(f"{MODEL}<p:letter |"), [])
