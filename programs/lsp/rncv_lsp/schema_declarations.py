@@ -232,16 +232,17 @@ class FileReader:
         return 0
 
 
-def documented(annotation: Sequence[Token]) -> Iterator[str]:
+def documented(annotation: Sequence[Token]) -> List[str]:
     """The lines of documentation in an annotation."""
-    depth, name, inside = 0, "", 0
-    for token in annotation:
+    depth, inside, texts = 0, 0, []
+    for before, token in zip((None, *annotation), annotation):
         if token.is_sign("["):
             depth += 1
-            inside = depth if name.rpartition(":")[2] == "documentation" else inside
+            if not inside and before is not None and before.text.rpartition(":")[2] == "documentation":
+                inside = depth
         elif token.is_sign("]"):
             inside = 0 if inside == depth else inside
             depth -= 1
         elif token.kind == "literal" and inside == depth > 0:
-            yield from (line.strip() for line in token.text.strip().splitlines())
-        name = token.text if token.kind in ("word", "cname", "quoted") else ""
+            texts[-1:] = [texts[-1] + token.text] if before.is_sign("~") and texts else [*texts[-1:], token.text]
+    return [line.strip() for text in texts for line in text.strip().splitlines()]
