@@ -16,6 +16,7 @@ from rncv_lsp.schema_files import SchemaSet
 from rncv_lsp.schemas import Outcome, name_of
 from rncv_lsp.settings import is_in
 from rncv_lsp.simple_form import Form
+from rncv_lsp.texts import Text
 from rncv_lsp.xml_completion import Asked, Completion, Knowledge, attribute_name
 from rncv_lsp.xml_cursor import Cursor, boundary, cursor_at, end_of_name
 from rncv_lsp.xml_feeds import EventFeed, PyxFeed
@@ -103,11 +104,15 @@ class XmlAnswers:
                 "range": document.lines.range(cursor.start, cursor.end, self._documents.encoding)}
 
     def definition(self, params: Any) -> Any:
-        """Where the schema declares the name at a position."""
+        """Where the schema declares the name at a position; in the instruction that names the schema, where that is."""
         document, offset = self._place(params)
         if document is None:
             return None
         encoding = self._documents.encoding
+        task = self._coordinator.task_of(document.uri)
+        model = next((model for model in document.models if model.is_compact), None)
+        if model is not None and model.start <= offset <= model.end:
+            return [] if task is None or task.schema is None else [{"uri": uri_of_file(task.schema.main), "range": Text().range(0, 0, encoding)}]
         return [{"uri": uri_of_file(each.file), "range": each.file.lines.range(each.name_start, each.name_end, encoding)}
                 for each in self._declared(document, offset)[1]]
 

@@ -255,6 +255,11 @@ class Declared(Asking):
             start, end = found[0]["range"]["start"], found[0]["range"]["end"]
             self.assertEqual((start["line"], LETTER.splitlines()[line][start["character"]:end["character"]]), (line, name), text)
 
+    def test_the_schema(self):
+        found = self.asked("definition", '<?xml-model hr|ef="s.rnc"?><a/>')
+        self.assertEqual(found, [{"uri": self.uri("s.rnc"), "range": {"start": {"line": 0, "character": 0}, "end": {"line": 0, "character": 0}}}])
+        self.assertEqual(self.asked("definition", '<?xml-model href="no|ne.rnc"?><a/>'), [])
+
     def test_several_files(self):
         self.write("s.rnc", 'include "parts/t.rnc" { start = a }\na = element a { t, element b { attribute c { "1" }, t }, attribute c { "2" }? }\n')
         self.write("parts/t.rnc", "start = notAllowed\n## a text\nt = element t { c?, text }\nc = attribute c { text }\n")
