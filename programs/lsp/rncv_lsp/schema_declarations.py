@@ -8,7 +8,7 @@ from typing import Dict, Iterator, List, Optional, Sequence, Set, Tuple
 from rncv_lsp.outside import Token
 from rncv_lsp.schema_files import SchemaFile, SchemaSet
 from rncv_lsp.schema_words import tokens_of
-from rncv_lsp.simple_form import Name
+from rncv_lsp.simple_form import XML_NAMESPACE, Name
 
 KEYWORDS = ("attribute", "default", "datatypes", "div", "element", "empty", "external", "grammar", "include", "inherit", "list", "mixed", "namespace",
             "notAllowed", "parent", "start", "string", "text", "token")
@@ -103,7 +103,7 @@ class FileReader:
     def __init__(self, file: SchemaFile, default: Optional[str]) -> None:
         self.found: List[Declaration] = []
         self.definitions: List[Tuple[str, Body]] = []
-        self.prefixes: Dict[str, str] = {"xml": "http://www.w3.org/XML/1998/namespace"}
+        self.prefixes: Dict[str, str] = {"xml": XML_NAMESPACE}
         self._file, self._text, self._default = file, file.lines.text, default
         self._tokens: Sequence[Token] = tokens_of(self._text)
         # For each open brace: whether it has components of a grammar, the body, and the declaration.

@@ -10,6 +10,7 @@ from rncv_lsp.outside import NoToken, Token, tokens
 
 # The URI of a namespace, and a local name.
 Name = Tuple[str, str]
+XML_NAMESPACE = "http://www.w3.org/XML/1998/namespace"
 XSD = "http://www.w3.org/2001/XMLSchema-datatypes"
 PLAIN_ELEMENT = re.compile(r"^e[0-9]+ = element ((?:n[0-9]+:)?[^\s(){}|*:-][^\s(){}|*:]*) \{ ", re.M)
 REFERENCE = re.compile(r"[ep][0-9]+")
@@ -66,7 +67,7 @@ class Form:
     def __init__(self, text: str) -> None:
         self._lines: Dict[str, str] = {}
         self._namespaces: Dict[str, str] = {}
-        self._prefixes: Dict[str, str] = {"": "", "xml": "http://www.w3.org/XML/1998/namespace"}
+        self._prefixes: Dict[str, str] = {"": "", "xml": XML_NAMESPACE}
         self._read: Dict[str, Optional[Line]] = {}
         self._known: Dict[Name, Content] = {}
         self._needs: Dict[Part, Need] = {}
@@ -117,6 +118,20 @@ class Form:
         """The lines of elements that may have the name."""
         wild = [line for line in self._wild if (read := self._line(line)) is not None and self.holds(read.names, name)]
         return [read for line in (*self._named.get(name, ()), *wild) if (read := self._line(line)) is not None]
+
+    @property
+    def elements(self) -> Tuple[Name, ...]:
+        """The names that elements have by themselves, in the order of their lines."""
+        return tuple(self._named)
+
+    def namespaces(self, local: str) -> List[str]:
+        """The namespaces of the schema: first those in which there is an element of this name."""
+        near = [uri for uri, each in self._named if each == local]
+        return [uri for uri in dict.fromkeys((*near, *self._prefixes.values())) if uri not in ("", XML_NAMESPACE)]
+
+    def is_declared(self, name: Name) -> bool:
+        """Whether an element may have the name."""
+        return bool(self._lines_for(name))
 
     def prepare(self) -> None:
         """Gets ready what `need` tells."""

@@ -8,10 +8,10 @@ from xml.sax.saxutils import escape, quoteattr
 
 from rncv_lsp.outside import rncv
 from rncv_lsp.schema_declarations import Declaration, Declarations
-from rncv_lsp.simple_form import BOOLEANS, XSD, Attribute, Form, Name
+from rncv_lsp.simple_form import BOOLEANS, XML_NAMESPACE, XSD, Attribute, Form, Name
 from rncv_lsp.texts import LINE_END, Text
 from rncv_lsp.xml_cursor import IN_TAG, Cursor
-from rncv_lsp.xml_reading import XML_NAMESPACE, expanded
+from rncv_lsp.xml_reading import expanded
 
 # Kinds of items of the protocol, and its number of a snippet.
 ELEMENT, ATTRIBUTE, VALUE, SNIPPET = 10, 5, 12, 2
@@ -101,7 +101,7 @@ class Completion:
         children = self._known.form.content(parent).children if parent is not None else ()
         if self._asked.expected is None:
             return list(children)
-        order = {name: index for index, name in enumerate(children)}
+        order = {name: index for index, name in enumerate(children or self._known.form.elements)}
         parts = [each.name.rpartition("}") for each in self._asked.expected.elements]
         found = [(uri[1:] if brace else "", local) for uri, brace, local in parts if local != "*"]
         return sorted(found, key=lambda name: order.get(name, len(order)))
@@ -133,6 +133,7 @@ class Completion:
         there = {attribute_name(name, scope) for name in cursor.given[::2]}
         found = [each for each in known.form.content(cursor.element).attributes if each.name not in there]
         is_alone = not cursor.after.lstrip().startswith("=")
+        self._add_namespace()
         gap = "" if cursor.after[:1].isspace() or cursor.after[:1] in ("", "/", ">", "<") else " "
         for attribute in sorted(found, key=lambda each: not each.is_required):
             name, declared = self._attribute_written(attribute.name, scope)
@@ -146,6 +147,16 @@ class Completion:
             self._add(ATTRIBUTE, name, words, insertTextFormat=SNIPPET if is_snippet else 0, detail="required" if attribute.is_required else "",
                       documentation=documentation_of(known.declarations.attribute(attribute.name, cursor.element)))
 
+    def _add_namespace(self) -> None:
+        """Adds a declaration of the namespace in which the schema has an element of the tag's name, if it has none in the namespace that holds."""
+        prefix, local = self._cursor.tag.rpartition(":")[::2]
+        name = f"xmlns:{prefix}" if prefix else "xmlns"
+        if name in self._cursor.given[::2] or self._known.form.is_declared(self._cursor.element):
+            return
+        for uri in self._known.form.namespaces(local):
+            if self._known.form.is_declared((uri, local)):
+                self._add(ATTRIBUTE, name, f"{name}={quoteattr(uri)}", detail=uri)
+
     def _attribute_written(self, name: Name, scope: Dict[str, str]) -> Tuple[Optional[str], str]:
         """How the name of an attribute is written here, and a declaration that it needs. None: its prefix is not known, or means something else here."""
         written = prefixed(name, scope)
@@ -157,6 +168,9 @@ class Completion:
     def _add_values_of_attribute(self) -> None:
         """Adds the values that the schema lists for an attribute."""
         cursor = self._cursor
+        if cursor.attribute.partition(":")[0] == "xmlns":
+            self._add_values(self._known.form.namespaces(cursor.tag.rpartition(":")[2]), False)
+            return
         wanted = attribute_name(cursor.attribute, cursor.scope)
         for attribute in self._known.form.content(cursor.element).attributes:
             if attribute.name == wanted:

@@ -7,10 +7,10 @@ import xml.parsers.expat
 from typing import Any, Dict, List, NamedTuple, Optional, Tuple
 
 from rncv_lsp.outside import rncv
+from rncv_lsp.simple_form import XML_NAMESPACE
 from rncv_lsp.texts import Text
 from rncv_lsp.xml_feeds import Feed
 
-XML_NAMESPACE = "http://www.w3.org/XML/1998/namespace"
 FIRST_SCOPE: Dict[str, str] = {"": "", "xml": XML_NAMESPACE}
 # How many characters are parsed at once.
 PART_LENGTH = 262_144

@@ -158,6 +158,13 @@ class Attributes(Asking):
         self.assertEqual(self.applied(f"{MODEL}<letter xmlns='urn:l' kind='new o|'", "old"), f"{MODEL}<letter xmlns='urn:l' kind='new old'")
         self.assertEqual(self.labels(f"{BEGIN}<title lang='|'"), [])
 
+    def test_namespaces(self):
+        self.assertEqual(self.applied(f"{MODEL}<letter x|", "xmlns"), f'{MODEL}<letter xmlns="urn:l"')
+        self.assertEqual(self.labels(f"{MODEL}<p:note |"), ["xmlns:p"])
+        self.assertEqual(self.labels(f"{MODEL}<none |"), [])
+        self.assertEqual(self.labels(f"{MODEL}<letter xmlns='|'"), ["urn:l", "urn:o"])
+        self.assertEqual(self.labels(f"{MODEL}<p:note xmlns:p='|'"), ["urn:o", "urn:l"])
+
     def test_values_in_content(self):
         self.assertEqual(self.labels(f"{BEGIN}<para><done>|"), ["yes", "no", "true", "false"])
         self.assertEqual(self.applied(f"{BEGIN}<para><done> y|</done>", "yes"), f"{BEGIN}<para><done> yes</done>")
@@ -210,7 +217,7 @@ class Broken(Asking):
 
     def test_an_unknown_prefix(self):
         self.assertEqual(self.labels(f"{MODEL}<p:letter><|"), ["/p:letter"])
-        self.assertEqual(self.labels(f"{MODEL}<p:letter |"), [])
+        self.assertEqual(self.labels(f"{MODEL}<p:letter |"), ["xmlns:p"])
 
     def test_positions(self):
         for before in ("<!--\U0001F600-->", "<!--\u00e9-->\r\n<!--\r-->\U00010000", "\r"):
