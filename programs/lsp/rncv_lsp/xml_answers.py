@@ -18,9 +18,10 @@ from rncv_lsp.settings import is_in
 from rncv_lsp.simple_form import Form
 from rncv_lsp.texts import Text
 from rncv_lsp.xml_completion import Asked, Completion, Knowledge, attribute_name
-from rncv_lsp.xml_cursor import Cursor, boundary, cursor_at, end_of_name
+from rncv_lsp.xml_cursor import Cursor, boundary, cursor_at, cursor_far, end_of_name
 from rncv_lsp.xml_feeds import EventFeed, PyxFeed
 from rncv_lsp.xml_reading import OpenElement, Reading, expanded
+from rncv_lsp.xml_source import instructions, offset_of
 
 CAPABILITIES = {
     "completionProvider": {"triggerCharacters": ["<", "/", " ", '"', "'"]},
@@ -31,6 +32,8 @@ CAPABILITIES = {
 ONLY_IN_TAGS = (" ", "/", '"', "'")
 BY_CHARACTER = 2
 MOST_SCHEMAS, MOST_LINES, MOST_SHOWN = 8, 12, 3
+# How many characters of a document are read for an answer.
+MOST_READ = 1_048_576
 
 
 class Kept(NamedTuple):
@@ -128,15 +131,9 @@ class XmlAnswers:
     def _expected(self, document: Document, outcome: Optional[Outcome], offset: int) -> Tuple[Cursor, Optional[rncv.Expected]]:
         """What is at a place, and what may come there, if that is known. If the document is not valid, only the innermost element counts."""
         try:
-            reading = self._reading_by(document, outcome, offset)
-            cursor = cursor_at(reading, document.lines, offset)
-            if reading.feed.is_refused:  # it may be over a limit of PYX, and then it is read in another way
-                reading = self._reading_by(document, outcome, offset)
-                cursor = cursor_at(reading, document.lines, offset)
-            if outcome is None or cursor.kind not in ("element", "content"):
-                return cursor, None
-            expected = reading.expected()
-            if expected is None and cursor.open:
+            cursor, expected = self._expected_by_all(document, outcome, offset)
+            is_near = bool(cursor.open) and offset - cursor.open[-1].start <= MOST_READ
+            if expected is None and is_near and outcome is not None and cursor.kind in ("element", "content"):
                 reading = self._reading_by(document, outcome, offset, cursor.open[-1])
                 reading.advance(document.lines, boundary(document.lines, offset))
                 expected = reading.expected()
@@ -144,6 +141,25 @@ class XmlAnswers:
         except MemoryError:
             self.forget(document.uri)
             raise
+
+    def _expected_by_all(self, document: Document, outcome: Optional[Outcome], offset: int) -> Tuple[Cursor, Optional[rncv.Expected]]:
+        """The same, if all counts that is before the place. Far behind the beginning that would take too long."""
+        root = self._far_root(document, offset)
+        if root is not None:
+            return cursor_far(document.lines, root, offset), None
+        reading = self._reading_by(document, outcome, offset)
+        cursor = cursor_at(reading, document.lines, offset)
+        if reading.feed.is_refused:  # it may be over a limit of PYX, and then it is read in another way
+            reading = self._reading_by(document, outcome, offset)
+            cursor = cursor_at(reading, document.lines, offset)
+        return cursor, reading.expected() if outcome is not None and cursor.kind in ("element", "content") else None
+
+    @staticmethod
+    def _far_root(document: Document, offset: int) -> Optional[int]:
+        """Where the root begins, if the place is too far behind it."""
+        place = instructions(document.lines, lambda *instruction: None) if offset > MOST_READ else None
+        root = offset_of(document.lines, place) if place is not None else offset
+        return root if offset - root > MOST_READ else None
 
     def _reading_by(self, document: Document, outcome: Optional[Outcome], offset: int, inside: Optional[OpenElement] = None) -> Reading:
         """A reading of the document by its schema, or of an element in it: the one that is kept, if it can go on."""
@@ -197,7 +213,8 @@ class XmlAnswers:
     def _declared(self, document: Document, offset: int) -> Tuple[Cursor, List[Declaration]]:
         """The name at a place, and its declarations."""
         offset = end_of_name(document.lines, offset)
-        cursor = cursor_at(self._reading(document, offset), document.lines, offset)
+        root = self._far_root(document, offset)
+        cursor = cursor_at(self._reading(document, offset), document.lines, offset) if root is None else cursor_far(document.lines, root, offset)
         task = self._coordinator.task_of(document.uri)
         schema = task.schema if task is not None else None
         if schema is None or not 0 < cursor.end - cursor.start or cursor.kind not in ("element", "end", "attribute"):

@@ -5,10 +5,10 @@ import re
 from typing import Dict, NamedTuple, Tuple
 
 from rncv_lsp.texts import LINE_END, Text
-from rncv_lsp.xml_reading import FIRST_SCOPE, OpenElement, Reading, expanded, given_in, is_in_prolog, loosely_open, scope_in
+from rncv_lsp.xml_reading import FIRST_SCOPE, NAME, OpenElement, Reading, expanded, given_in, is_in_prolog, loosely_open, scope_in
 
-# How far a tag is searched for its end; and a text for its beginning, at first.
-TAG_LENGTH, STEP_LENGTH = 65_536, 4_096
+# How far a tag is searched for its end; a text for its beginning, at first; and a long document for elements that are open.
+TAG_LENGTH, STEP_LENGTH, FAR_LENGTH = 65_536, 4_096, 65_536
 LETTER = r"""[^\s<>/&="'?!;]"""
 VALUE = r"""(?:"[^"<]*"|'[^'<]*')"""
 GIVEN = rf"(?:\s+{LETTER}+\s*=\s*{VALUE})*"
@@ -70,19 +70,36 @@ def cursor_at(reading: Reading, lines: Text, offset: int) -> Cursor:
     limit = boundary(lines, offset)
     reading.advance(lines, limit)
     if reading.fault_at is not None:
-        open_elements, start = loosely_open(lines, min(reading.fault_at, offset), offset, reading.open)
+        open_elements, start = reading.loosely(limit, offset)
         start = start if start < offset else limit
     else:
         open_elements, start = reading.open, min(reading.unfinished(), limit)
         if reading.is_in_data or not (reading.has_root or is_in_prolog(lines.slice(0, limit))):
             return NOTHING
+    return in_markup(lines, start, offset, tuple(open_elements))
+
+
+def in_markup(lines: Text, start: int, offset: int, open_elements: Tuple[OpenElement, ...]) -> Cursor:
+    """What is at a place in these elements, if the markup that begins at the other place is not finished there, or if that place is the end of the last one."""
     words = lines.slice(start, offset)
     if words.startswith(("<!", "<?")):
         return NOTHING
     begin = words.rfind("<")  # before it there may be the first character of a line end, or an unfinished tag
     if begin < 0:
-        return Cursor("content", offset, offset, lines.slice(limit, offset), tuple(open_elements))
-    return in_tag(lines, start + begin, offset, tuple(open_elements))
+        return Cursor("content", offset, offset, lines.slice(max(start, boundary(lines, offset)), offset), open_elements)
+    return in_tag(lines, start + begin, offset, open_elements)
+
+
+def cursor_far(lines: Text, root: int, offset: int) -> Cursor:
+    """What is at a place far behind the beginning of the root. Elements that begin not far before the place are known, as far as their tags can be told, and the
+    root. Those between are left out."""
+    words = lines.slice(root, root + TAG_LENGTH)
+    name, tag = NAME.match(words), REST.match(words[1:])[0]
+    first = [OpenElement(name[1], scope_in(FIRST_SCOPE, given_in(tag)), root)] if name else []
+    begin = offset - FAR_LENGTH
+    begin += max(lines.slice(begin, offset).find("<"), 0)
+    open_elements, start = loosely_open(lines, begin, offset, first)
+    return in_markup(lines, start if start < offset else boundary(lines, offset), offset, tuple(open_elements))
 
 
 def end_of_name(lines: Text, offset: int) -> int:

@@ -16,9 +16,10 @@ FIRST_SCOPE: Dict[str, str] = {"": "", "xml": XML_NAMESPACE}
 PART_LENGTH = 262_144
 # The bytes of UTF-8 that begin no character.
 CONTINUED = bytes(range(0x80, 0xC0))
-# What stands in a text that is not well formed: each of these has one beginning and one end, and what has no end goes to the end of the text.
-PIECE = re.compile(r"""<!--.*?(?:-->|\Z)|<!\[CDATA\[.*?(?:\]\]>|\Z)|<\?.*?(?:\?>|\Z)|<!(?:[^<>"']+|"[^"]*(?:"|\Z)|'[^']*(?:'|\Z))*>?|</?[^\s<>/&="'?!;]+"""
-                   r"""(?:[^<>"']+|"[^"<]*(?:"|(?=<)|\Z)|'[^'<]*(?:'|(?=<)|\Z))*>?""", re.S)
+# What stands in a text that is not well formed. Each of these has one beginning and one end, which is the only group; what has no end goes to the end of the text,
+# or a tag to the next one.
+PIECE = re.compile(r"""<!--.*?(?:(-->)|\Z)|<!\[CDATA\[.*?(?:(\]\]>)|\Z)|<\?.*?(?:(\?>)|\Z)|<!(?:[^<>"']+|"[^"]*(?:"|\Z)|'[^']*(?:'|\Z))*(>)?"""
+                   r"""|</?[^\s<>/&="'?!;]+(?:[^<>"']+|"[^"<]*(?:"|(?=<)|\Z)|'[^'<]*(?:'|(?=<)|\Z))*(>)?""", re.S)
 NAME = re.compile(r"</?([^\s<>/&=\"'?!;]+)")
 GIVEN = re.compile(r"""\s([^\s<>/&="'?!;]+)\s*=\s*(?:"([^"<]*)"|'([^'<]*)')""")
 # The parts of a prolog.
@@ -64,7 +65,8 @@ class Reading:
         self.open: List[OpenElement] = []
         self.has_root = self.is_in_data = False
         self.feed, self._inside = feed or Feed(), inside
-        self._fault_at = -1
+        # Where a fault is; and behind that, up to where tags were told, and the elements that are open there.
+        self._fault_at, self._loose = -1, (0, self.open)
         # How many bytes were parsed, those that are parsed now, and how many of these have so many characters before them.
         self._bytes, self._data, self._counted = 0, b"", (0, 0)
         self._parser: Any = xml.parsers.expat.ParserCreate("UTF-8")
@@ -127,7 +129,17 @@ class Reading:
         while self._fault_at < 0 and self.at < end:
             begin, self.at = self.at, min(self.at + PART_LENGTH, end)
             self._parse(begin)
+        self.at = max(self.at, end)
         self.feed.flush()
+
+    def loosely(self, limit: int, end: int) -> Tuple[List[OpenElement], int]:
+        """The elements that are open at the end, behind a fault, and where the markup begins that is not finished there. What is told up to the limit is kept."""
+        begin, stack = self._loose if self._loose[0] > self._fault_at else (self._fault_at, self.open)
+        if begin < limit:
+            found, start = loosely_open(self.lines, begin, limit, stack)
+            if start == limit:
+                self._loose = begin, stack = limit, found
+        return loosely_open(self.lines, min(begin, end), end, stack)
 
     def _parse(self, begin: int) -> None:
         """Parses what follows a place. A byte order mark is left out."""
@@ -176,7 +188,7 @@ def loosely_open(lines: Text, begin: int, end: int, open_elements: List[OpenElem
     stack, text, last = list(open_elements), lines.slice(begin, end), end
     for found in PIECE.finditer(text):
         words = found[0]
-        last = begin + found.start() if found.end() == len(text) and not is_finished(words) else end
+        last = begin + found.start() if found.end() == len(text) and found.lastindex is None else end
         named = NAME.match(words)
         if named is None or last < end:
             continue

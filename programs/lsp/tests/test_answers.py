@@ -213,7 +213,15 @@ class Broken(Asking):
         self.write("deep.rnc", "start = a a = element a { a?, element b { empty }? }")
         self.assertEqual(self.labels(f'<?xml-model href="deep.rnc"?>{"<a>" * 600}<a/><|'), ["b", "/a"])
         self.assertEqual(self.labels(f"{MODEL}<letter xmlns='urn:l' to='Ada' kind='{'new ' * 20_000}'><end/><|"), ["/letter"])
-        self.assertEqual(self.labels(f"{BEGIN}<para>{'x' * 1_100_000}</para><end/><|"), ["/letter"])
+        self.assertEqual(self.labels(f"{BEGIN}<para>{chr(233) * 600_000}</para><end/><|"), ["/letter"])
+
+    def test_far_behind_the_root(self):
+        """Only what is near is read."""
+        text = f"<!-- \U0001F600 -->{BEGIN}\n" + "<para>\U0001F600<p>x</p></para>\n" * 60_000
+        for end, wanted in (("<|", ["title", "para", "note", "end", "/letter"]), ("<para><p/><|", ["p", "/para"]), ("<para><done>|", ["yes", "no", "true", "false"]),
+                            ("<title |", ["lang"]), ("<!-- <|", [])):
+            self.assertEqual(self.labels(text + end), wanted, end)
+        self.assertIn("Its title", self.asked("hover", f"{text}<tit|le/>")["contents"]["value"])
 
     def test_an_unknown_prefix(self):
         self.assertEqual(self.labels(f"{MODEL}<p:letter><|"), ["/p:letter"])
