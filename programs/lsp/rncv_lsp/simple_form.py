@@ -44,11 +44,13 @@ class Attribute(NamedTuple):
 
 
 class Content(NamedTuple):
-    """What elements of a name may have: attributes, names of elements in them, and values that the schema lists for their text."""
+    """What elements of a name may have: attributes, names of elements in them, and values that the schema lists for their text. `is_list` says that the text may
+    be a list, with items among the values."""
 
     attributes: Tuple[Attribute, ...]
     children: Tuple[Name, ...]
     values: Tuple[str, ...]
+    is_list: bool
 
 
 class Need(NamedTuple):
@@ -157,16 +159,15 @@ class Form:
         required = either([self._need(line.parts[0]) for line in lines]).attributes if lines else {}
         attributes: Dict[Name, List[str]] = {}
         children: Dict[Name, None] = {}
-        values: List[str] = []
-        for part in self._reached([line.parts[0] for line in lines]):
+        parts = [line.parts[0] for line in lines]
+        for part in self._reached(parts):
             line = self._line(part.name) if part.kind in ("pattern", "element") else None
-            values += [part.text] if part.kind == "value" else []
             if line is not None and line.kind == "element":
                 children.update(dict.fromkeys(self.names(line.names)))
             for each in self.names(line.names) if line is not None and line.kind == "attribute" else ():
                 attributes.setdefault(each, []).append(part.name)
         found = [self._attribute(name, lines_of, name in required) for name, lines_of in attributes.items()]
-        return Content(tuple(found), tuple(children), tuple(values))
+        return Content(tuple(found), tuple(children), *self._values(parts))
 
     def _attribute(self, name: Name, lines: Sequence[str], is_required: bool) -> Attribute:
         """The attribute that these lines declare."""

@@ -1,6 +1,7 @@
 """The answers about a place in an XML document: what may come there, and what the schema says of a name there."""
 from __future__ import annotations
 
+import contextlib
 import os
 import re
 import threading
@@ -201,7 +202,9 @@ class XmlAnswers:
 
     def _prepare(self, task: Task) -> None:
         """Gets ready what is known of the schema of a document."""
-        if task.outcome is not None and task.outcome.validator is not None:
+        if task.outcome is None or task.outcome.validator is None:
+            return
+        with contextlib.suppress(MemoryError):  # an answer reports that
             self._knowledge(task).form.prepare()
             self._elements.find(task.outcome.name, lambda: elements_by(self._form(task.outcome)))
 

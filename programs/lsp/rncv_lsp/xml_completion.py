@@ -188,11 +188,13 @@ class Completion:
 
     def _add_content(self) -> None:
         """Adds what may come between tags: elements where nothing is typed, and values."""
-        expected = self._asked.expected
-        if expected is not None:
+        expected, content = self._asked.expected, self._known.form.content(self._cursor.open[-1].expanded)
+        if expected is None or (content.is_list and not expected.values):
+            self._add_values(content.values, content.is_list)
+        else:
             booleans = BOOLEANS if any(each == (XSD, "boolean") for each in expected.datatypes) else ()
-            order = self._known.form.content(self._cursor.open[-1].expanded).values
-            listed = sorted((value.text for value in expected.values), key=lambda text: order.index(text) if text in order else len(order))
+            order = {value: index for index, value in enumerate(content.values)}
+            listed = sorted((value.text for value in expected.values), key=lambda text: order.get(text, len(order)))
             self._add_values(dict.fromkeys([*listed, *booleans]), False)
         if not self._cursor.words.strip():
             self._add_elements("<")

@@ -76,6 +76,7 @@ class Reading:
         """Says what the parser calls."""
         parser = self._parser
         parser.buffer_text, parser.ordered_attributes = True, True
+        self._defers = xml.parsers.expat.version_info >= (2, 6) and not hasattr(parser, "SetReparseDeferralEnabled")
         if hasattr(parser, "SetReparseDeferralEnabled"):
             parser.SetReparseDeferralEnabled(False)
         parser.StartElementHandler, parser.EndElementHandler = self._start if self._inside is None else self._start_inside, self._end
@@ -120,8 +121,10 @@ class Reading:
         self.is_in_data = is_in_data
 
     def continues(self, lines: Text, end: int) -> bool:
-        """Whether the text has not changed before the place up to which it was read, which is not behind the new end."""
-        return self.at <= end and lines.begins_like(self.lines, self.at)
+        """Whether the text has not changed before the place up to which it was read, which is not behind the new end. Some parsers wait for more text behind
+        markup that is not finished, so that one has to begin anew."""
+        is_waiting = self._defers and (self.unfinished() < self.at or not self.has_root)
+        return self.at <= end and not is_waiting and lines.begins_like(self.lines, self.at)
 
     def advance(self, lines: Text, end: int) -> None:
         """Reads on up to a place."""

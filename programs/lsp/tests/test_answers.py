@@ -168,6 +168,9 @@ class Attributes(Asking):
     def test_values_in_content(self):
         self.assertEqual(self.labels(f"{BEGIN}<para><done>|"), ["yes", "no", "true", "false"])
         self.assertEqual(self.applied(f"{BEGIN}<para><done> y|</done>", "yes"), f"{BEGIN}<para><done> yes</done>")
+        self.write("list.rnc", 'element a { list { ("one" | "two" | xsd:boolean)+ } }')
+        self.assertEqual(self.labels('<?xml-model href="list.rnc"?><a>one |'), ["one", "two", "true", "false"])
+        self.assertEqual(self.applied('<?xml-model href="list.rnc"?><a>one t|</a>', "two"), '<?xml-model href="list.rnc"?><a>one two</a>')
 
 
 class Broken(Asking):

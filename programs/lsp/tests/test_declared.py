@@ -44,7 +44,7 @@ class Forms(unittest.TestCase):
 
     def test_values(self):
         form = form_of(r'''start = element a { "x \x{5C} \x{A} ' { }" | string "p1" | xsd:boolean | (xsd:token - "not") | xsd:token { pattern = "e1|p2" } }''')
-        self.assertEqual(form.content(("", "a")).values, ("x \\ \n ' { }", "p1"))
+        self.assertEqual(form.content(("", "a")).values, ("x \\ \n ' { }", "p1", "true", "false"))
 
     def test_name_classes(self):
         form = form_of('''namespace p = "u" namespace q = "v"
