@@ -1,4 +1,4 @@
-"""Where the files of a schema declare elements and attributes, with their documentation. It is read from the tokens, so that it needs no schema that is good."""
+"""Where the files of a schema declare elements and attributes, with their documentation. It is read from the tokens, so the schema need not be good."""
 from __future__ import annotations
 
 import dataclasses
@@ -26,7 +26,8 @@ class Body:
 
 @dataclasses.dataclass(eq=False)
 class Declaration:
-    """A pattern `element` or `attribute` of a file, from `start` to `end`. A URI in its names is None if it is not known. Its first name begins at `name_start`."""
+    """A pattern `element` or `attribute` of a file, from `start` to `end`, with its first name from `name_start` to `name_end`. A URI in its names is None if it
+    is not known."""
 
     kind: str
     names: List[Tuple[Optional[str], str]]
@@ -59,12 +60,15 @@ class Declarations:
         for file in {file.key: file for file in schema.files.values()}.values():
             reader = FileReader(file, "" if file.key == schema.main.key else None)
             reader.read()
-            for each, local in [(each, local) for each in reader.found for local in dict.fromkeys(local for _, local in each.names)]:
-                self._by_local.setdefault((each.kind, local), []).append(each)
-            for name, body in reader.definitions:
-                self._definitions.setdefault(name, []).append(body)
-            for prefix, uri in reader.prefixes.items():
-                self.prefixes.setdefault(uri, prefix)
+            self._add(reader)
+
+    def _add(self, reader: FileReader) -> None:
+        """Adds what was read of a file."""
+        self.prefixes.update({uri: prefix for prefix, uri in reader.prefixes.items() if uri not in self.prefixes})
+        for name, body in reader.definitions:
+            self._definitions.setdefault(name, []).append(body)
+        for each, local in [(each, local) for each in reader.found for local in dict.fromkeys(local for _, local in each.names)]:
+            self._by_local.setdefault((each.kind, local), []).append(each)
 
     def element(self, name: Name, parent: Optional[Name] = None) -> List[Declaration]:
         """The declarations of elements with this name: those that are in elements of the parent's name, or else all."""
@@ -91,9 +95,9 @@ class Declarations:
         while waiting:
             body = waiting.pop()
             seen.append(body)
-            for name in body.references - names:
-                names.add(name)
-                waiting += self._definitions.get(name, ())
+            fresh = body.references - names
+            names |= fresh
+            waiting += [each for name in fresh for each in self._definitions.get(name, ())]
         return {declared for body in seen for declared in body.declared}
 
 

@@ -44,8 +44,8 @@ class Attribute(NamedTuple):
 
 
 class Content(NamedTuple):
-    """What elements of a name may have: attributes, names of elements in them, and values that the schema lists for their text. `is_list` says that the text may
-    be a list, with items among the values."""
+    """What elements of a name may have: attributes, names of elements in them, and values that the schema lists for their text. `is_list` says that the text
+    may be a list, with items among the values."""
 
     attributes: Tuple[Attribute, ...]
     children: Tuple[Name, ...]
@@ -162,10 +162,11 @@ class Form:
         parts = [line.parts[0] for line in lines]
         for part in self._reached(parts):
             line = self._line(part.name) if part.kind in ("pattern", "element") else None
-            if line is not None and line.kind == "element":
-                children.update(dict.fromkeys(self.names(line.names)))
-            for each in self.names(line.names) if line is not None and line.kind == "attribute" else ():
-                attributes.setdefault(each, []).append(part.name)
+            names = list(self.names(line.names)) if line is not None else []
+            if line is not None and line.kind == "attribute":
+                attributes.update({each: [*attributes.get(each, ()), part.name] for each in names})
+            else:
+                children.update(dict.fromkeys(names))
         found = [self._attribute(name, lines_of, name in required) for name, lines_of in attributes.items()]
         return Content(tuple(found), tuple(children), *self._values(parts))
 

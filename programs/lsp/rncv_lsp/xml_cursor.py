@@ -91,8 +91,8 @@ def in_markup(lines: Text, start: int, offset: int, open_elements: Tuple[OpenEle
 
 
 def cursor_far(lines: Text, root: int, offset: int) -> Cursor:
-    """What is at a place far behind the beginning of the root. Elements that begin not far before the place are known, as far as their tags can be told, and the
-    root. Those between are left out."""
+    """What is at a place far behind the beginning of the root. Elements that begin not far before the place are known, as far as their tags can be told, and
+    the root. Those between are left out."""
     words = lines.slice(root, root + TAG_LENGTH)
     name, tag = NAME.match(words), REST.match(words[1:])[0]
     first = [OpenElement(name[1], scope_in(FIRST_SCOPE, given_in(tag)), root)] if name else []

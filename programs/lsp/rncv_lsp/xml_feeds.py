@@ -48,14 +48,17 @@ class PyxFeed(Feed):
         self._add = self._lines.append
 
     def start(self, name: str, attributes: List[str], scope: Dict[str, str]) -> None:
+        """Takes a start tag. The library finds the declarations among the attributes."""
         self._add("(" + name)
         for each, value in zip(attributes[::2], attributes[1::2]):
             self._add(f"A{each} {escaped(value)}")
 
     def end(self, name: str) -> None:
+        """Takes an end tag."""
         self._add(")" + name)
 
     def text(self, words: str) -> None:
+        """Takes a text, in lines that are not too long."""
         if len(words) <= LINE_LENGTH:
             self._add("-" + escaped(words))
             return
@@ -63,6 +66,7 @@ class PyxFeed(Feed):
             self._add("-" + escaped(words[at:at + LINE_LENGTH]))
 
     def flush(self) -> None:
+        """Hands on the lines."""
         if self._lines and self._lines[-1][0] in "(A":
             self._add("?")  # the next line says that the tag has no more attributes
         if self._lines and not self.is_refused:
@@ -77,14 +81,17 @@ class EventFeed(Feed):
         self.document: rncv.Events = validator.events()
 
     def start(self, name: str, attributes: List[str], scope: Dict[str, str]) -> None:
+        """Takes a start tag. A prefix that is not declared is refused."""
         pairs = [(each, value) for each, value in zip(attributes[::2], attributes[1::2]) if each.partition(":")[0] != "xmlns"]
         names = [braced(name, scope), *(braced(each, scope) if ":" in each else each for each, _ in pairs)]
         self.is_refused = self.is_refused or None in names or not self.document.start(names[0], list(zip(names[1:], [value for _, value in pairs])))
 
     def end(self, name: str) -> None:
+        """Takes an end tag."""
         self.is_refused = self.is_refused or not self.document.end()
 
     def text(self, words: str) -> None:
+        """Takes a text."""
         self.is_refused = self.is_refused or not self.document.text(words)
 
 

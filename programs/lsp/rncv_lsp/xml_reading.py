@@ -16,8 +16,8 @@ FIRST_SCOPE: Dict[str, str] = {"": "", "xml": XML_NAMESPACE}
 PART_LENGTH = 262_144
 # The bytes of UTF-8 that begin no character.
 CONTINUED = bytes(range(0x80, 0xC0))
-# What stands in a text that is not well formed. Each of these has one beginning and one end, which is the only group; what has no end goes to the end of the text,
-# or a tag to the next one.
+# What stands in a text that is not well formed. Each of these has one beginning and one end, which is the only group; what has no end goes to the end of the
+# text, or a tag to the next one.
 PIECE = re.compile(r"""<!--.*?(?:(-->)|\Z)|<!\[CDATA\[.*?(?:(\]\]>)|\Z)|<\?.*?(?:(\?>)|\Z)|<!(?:[^<>"']+|"[^"]*(?:"|\Z)|'[^']*(?:'|\Z))*(>)?"""
                    r"""|</?[^\s<>/&="'?!;]+(?:[^<>"']+|"[^"<]*(?:"|(?=<)|\Z)|'[^'<]*(?:'|(?=<)|\Z))*(>)?""", re.S)
 NAME = re.compile(r"</?([^\s<>/&=\"'?!;]+)")
@@ -136,7 +136,8 @@ class Reading:
         self.feed.flush()
 
     def loosely(self, limit: int, end: int) -> Tuple[List[OpenElement], int]:
-        """The elements that are open at the end, behind a fault, and where the markup begins that is not finished there. What is told up to the limit is kept."""
+        """The elements that are open at the end, behind a fault, and where the markup begins that is not finished there. What is told up to the limit is
+        kept."""
         begin, stack = self._loose if self._loose[0] > self._fault_at else (self._fault_at, self.open)
         if begin < limit:
             found, start = loosely_open(self.lines, begin, limit, stack)
