@@ -50,9 +50,10 @@ class Asking(WithServer):
         lines = re.split("\r\n|\r|\n", before)
         return uri, {"line": len(lines) - 1, "character": len(lines[-1].encode("utf-16-le")) // 2}
 
-    def asked(self, method, text, name="a.xml", **others):
-        """The answer to a request at the cursor."""
+    def asked(self, method, text, name="a.xml", units=None, **others):
+        """The answer to a request at the cursor, whose column may be in other units."""
         uri, position = self.opened(text, name)
+        position["character"] = position["character"] if units is None else units
         answer = self.client.request(f"textDocument/{method}", {"textDocument": {"uri": uri}, "position": position, **others})
         self.assertNotIn("error", answer, text)
         return answer["result"]
@@ -286,6 +287,40 @@ class Declared(Asking):
         found = self.asked("definition", f"{MODEL}<a><t/><b c|='1'/></a>")
         self.assertEqual([(each["uri"], each["range"]["start"]) for each in found], [(self.uri("s.rnc"), {"line": 1, "character": 41})])
         self.assertIn("a text", self.asked("hover", f"{MODEL}<a><t|/></a>")["contents"]["value"])
+
+
+class BySettings(Asking):
+    """A schema that the settings name, and a client without snippets and with other units."""
+
+    SHARED = False
+    OPTIONS = {"schemas": [{"pattern": "*.xml", "schema": "s.rnc"}]}
+    CAPABILITIES = {"general": {"positionEncodings": ["utf-32"]}}
+
+    def test_an_empty_document(self):
+        for text, wanted in (("|", "<letter xmlns=\"urn:l\""), ("<|", "letter xmlns=\"urn:l\""), ("\n|\n", "<letter xmlns=\"urn:l\"")):
+            self.assertEqual([item["textEdit"]["newText"] for item in self.items(text)], [wanted], text)
+        self.assertEqual(self.labels("<!-- <|"), [])
+
+    def test_texts_and_units(self):
+        text = "<letter xmlns='urn:l' to='Ada'><!-- \U0001F600 --><title "
+        self.assertEqual([(item["textEdit"]["newText"], item["textEdit"]["range"]["start"]["character"]) for item in self.items(f"{text}|", units=len(text))],
+                         [('lang=""', len(text))])
+        found = self.asked("hover", f"{text[:-6]}|{text[-6:]}>", units=len(text) - 6)
+        self.assertEqual(found["contents"], {"kind": "plaintext", "value": "s.rnc:14\n\nIts title\n\nelement title { attribute lang { text }, text }"})
+        self.assertEqual(found["range"]["end"]["character"], len(text) - 1)
+
+    def test_before_the_schema_is_known(self):
+        """The client is told to ask again, and gets what needs no schema."""
+        self.write("large.rnc", "start = " + " | ".join(f"element a{number} {{ text }}" for number in range(900)))
+        uri = self.uri("b.xml")
+        self.client.open(uri, '<?xml-model href="large.rnc"?><a><')
+        place = {"textDocument": {"uri": uri}, "position": {"line": 0, "character": 34}}
+        first = self.client.request("textDocument/completion", place)["result"]
+        self.client.found(uri)
+        second = self.client.request("textDocument/completion", place)["result"]
+        self.assertFalse(second["isIncomplete"])
+        self.assertEqual([[item["label"] for item in answer["items"]] for answer in (first, second)], [["/a"], ["/a"]])
+
 
 
 if __name__ == "__main__":
