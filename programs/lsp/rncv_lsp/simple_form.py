@@ -14,6 +14,7 @@ XML_NAMESPACE = "http://www.w3.org/XML/1998/namespace"
 XSD = "http://www.w3.org/2001/XMLSchema-datatypes"
 PLAIN_ELEMENT = re.compile(r"^e[0-9]+ = element ((?:n[0-9]+:)?[^\s(){}|*:-][^\s(){}|*:]*) \{ ", re.M)
 REFERENCE = re.compile(r"[ep][0-9]+")
+CHILD = re.compile(r"""\be([0-9]+)\b|"[^"]*"|'[^']*'""")
 BOOLEANS = ("true", "false")
 
 
@@ -84,12 +85,12 @@ class Form:
         self._named, self._wild = self._elements(text)
 
     def schema_of_elements(self) -> str:
-        """The text of a schema whose documents are all elements of this one, as the root, with attributes left out."""
+        """The text of a schema whose documents are all elements of this one, as the root, with their children empty, and without attributes."""
         elements = [name for name in self._lines if name.startswith("e")]
         while len(elements) > 1:  # a choice of choices is less deep than a list
             elements = [f"({' | '.join(elements[at:at + 2])})" for at in range(0, len(elements), 2)]
         namespaces = [f"{name} = {written}" for name, written in self._namespaces.items()]
-        lines = [f"{name} = {'empty' if written.startswith('attribute ') else written}" for name, written in self._lines.items() if name not in ("", "start")]
+        lines = [line for name, written in self._lines.items() if name not in ("", "start") for line in shallow_lines(name, written)]
         return "\n".join([*namespaces, f"start = {''.join(elements) or 'notAllowed'}", *lines]) + "\n"
 
     def _elements(self, text: str) -> Tuple[Dict[Name, List[str]], List[str]]:
@@ -260,6 +261,23 @@ class Form:
             return True
         uri, local = self._name_of(token.text)
         return uri == name[0] and local in (name[1], "*")
+
+
+def shallow_lines(name: str, written: str) -> Iterator[str]:
+    """The lines for one of a form, so that it has children `s0`, `s1`, .. in place of the elements `e0`, `e1`, .."""
+    if written.startswith("attribute "):
+        yield f"{name} = empty"
+    elif written.startswith("element "):
+        names, brace, inside = written.partition(" { ")
+        yield f"{name} = {names}{brace}{CHILD.sub(shallow, inside)}"
+        yield f"s{name[1:]} = {names} {{ empty }}"
+    else:
+        yield f"{name} = {CHILD.sub(shallow, written)}"
+
+
+def shallow(found: "re.Match[str]") -> str:
+    """The name of a child in place of that of an element; a literal as it is."""
+    return found[0] if found[1] is None else f"s{found[1]}"
 
 
 def either(needs: Sequence[Need]) -> Need:

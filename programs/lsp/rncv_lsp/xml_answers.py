@@ -243,7 +243,7 @@ class XmlAnswers:
 
 
 def elements_by(form: Form) -> Optional[rncv.Validator]:
-    """A validator for all elements of a schema, without attributes; None if it would be too large."""
+    """A validator for all elements of a schema, each by itself; None if it would be too large."""
     try:
         return rncv.compile({"elements": form.schema_of_elements().encode("utf-8")}, datatypes=DATATYPES[0])
     except (rncv.SchemaError, MemoryError):

@@ -57,8 +57,8 @@ def scope_in(scope: Dict[str, str], attributes: List[str]) -> Dict[str, str]:
 
 
 class Reading:
-    """What was read of a document, and handed on by a feed. With `inside` only that element is read, and attributes are left out, for a schema that has none:
-    what is wrong around it, or with attributes, does not count."""
+    """What was read of a document, and handed on by a feed. With `inside` only that element is read and handed on, with its texts and empty children, and without
+    attributes, for a schema of such elements: what is wrong around it, in its children, or with attributes, does not count."""
 
     def __init__(self, feed: Optional[Feed] = None, inside: Optional[OpenElement] = None) -> None:
         self.lines, self.at = Text(), inside.start if inside is not None else 0
@@ -79,10 +79,11 @@ class Reading:
         self._defers = xml.parsers.expat.version_info >= (2, 6) and not hasattr(parser, "SetReparseDeferralEnabled")
         if hasattr(parser, "SetReparseDeferralEnabled"):
             parser.SetReparseDeferralEnabled(False)
-        parser.StartElementHandler, parser.EndElementHandler = self._start if self._inside is None else self._start_inside, self._end
+        is_whole = self._inside is None
+        parser.StartElementHandler, parser.EndElementHandler = (self._start, self._end) if is_whole else (self._start_inside, self._end_inside)
         parser.StartCdataSectionHandler, parser.EndCdataSectionHandler = (lambda: self._set_data(True)), (lambda: self._set_data(False))
         if self.feed.document is not None:
-            parser.CharacterDataHandler = self.feed.text
+            parser.CharacterDataHandler = self.feed.text if is_whole else self._text_inside
 
     def _start(self, name: str, attributes: List[str]) -> None:
         """Takes a start tag."""
@@ -95,13 +96,15 @@ class Reading:
         self.feed.start(name, attributes, scope)
 
     def _start_inside(self, name: str, attributes: List[str]) -> None:
-        """Takes a start tag without its attributes. The first one gets all declarations that hold in it."""
+        """Takes a start tag. The element and its children get all declarations that hold in them."""
         outer = self.open[-1].scope if self.open else {}
         scope = scope_in(outer, attributes) if self.open else self._inside.scope
-        declared = [(prefix, uri) for prefix, uri in scope.items() if prefix != "xml"] if scope is not outer else []
+        is_new = scope is not outer and len(self.open) < 2
+        declared = [(prefix, uri) for prefix, uri in scope.items() if prefix != "xml"] if is_new else []
         self.open.append(OpenElement(name, scope, self._place()))
         self.has_root = True
-        self.feed.start(name, [word for prefix, uri in declared for word in (f"xmlns:{prefix}" if prefix else "xmlns", uri)], scope)
+        if len(self.open) <= 2:
+            self.feed.start(name, [word for prefix, uri in declared for word in (f"xmlns:{prefix}" if prefix else "xmlns", uri)], scope)
 
     def _place(self) -> int:
         """Where the tag begins that the parser has read."""
@@ -115,6 +118,17 @@ class Reading:
         """Takes an end tag."""
         del self.open[-1]
         self.feed.end(name)
+
+    def _end_inside(self, name: str) -> None:
+        """Takes an end tag."""
+        del self.open[-1]
+        if len(self.open) <= 1:
+            self.feed.end(name)
+
+    def _text_inside(self, words: str) -> None:
+        """Takes a text."""
+        if len(self.open) == 1:
+            self.feed.text(words)
 
     def _set_data(self, is_in_data: bool) -> None:
         """Takes the beginning or the end of a section CDATA."""

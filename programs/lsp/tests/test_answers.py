@@ -199,6 +199,7 @@ class Broken(Asking):
     def test_what_is_not_valid_before(self):
         self.assertEqual(self.labels(f"{BEGIN}<end/><end/><|"), ["title", "para", "note", "end", "/letter"])
         self.assertEqual(self.labels(f"{BEGIN}<end/><end/><para><p/>|"), ["p"])
+        self.assertEqual(self.labels(f"{BEGIN}<title/><para><none a=''>x</none><done>z</done></para>x<!-- --><|"), ["para", "note", "end", "/letter"])
         self.assertEqual(self.labels(f"{MODEL}<none><letter xmlns='urn:l' none=''><n:note xmlns:n='urn:o'/><!-- \U0001F600 --><|"), ["para", "note", "end", "/letter"])
         self.assertEqual(self.labels(f"{MODEL}<letter xmlns='urn:l'><para x=''><done y=''>|"), ["yes", "no", "true", "false"])
         self.assertEqual(self.labels(f"{BEGIN}<none><|"), ["/none"])

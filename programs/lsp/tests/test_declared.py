@@ -66,9 +66,10 @@ class Forms(unittest.TestCase):
             self.assertEqual(form.content(("", "a")).attributes, ())
 
     def test_the_schema_of_elements(self):
-        form = form_of('namespace p = "u" start = element a { attribute x { "1" }, (element p:b { attribute y { text }, text } | attribute z { text }) }')
+        form = form_of('namespace p = "u" start = element a { attribute x { "1" }, (element p:b { attribute y { text }, "e1 e2" } | attribute z { text }) }')
         with rncv.compile({"s": form.schema_of_elements().encode()}) as validator:
-            for document, verdict in ((b"(a\n(p\nAxmlns u\n)p\n)a\n", False), (b"(a\n)a\n", True), (b"(b\nAxmlns u\n-x\n)b\n", True), (b"(c\n)c\n", False)):
+            for document, verdict in ((b"(a\n(p\nAxmlns u\n)p\n)a\n", False), (b"(a\n(b\nAxmlns u\n)b\n)a\n", True), (b"(a\n)a\n", True),
+                                      (b"(b\nAxmlns u\n-e1 e2\n)b\n", True), (b"(b\nAxmlns u\n-x\n)b\n", False), (b"(c\n)c\n", False)):
                 self.assertEqual(validator.validate(document).valid, verdict, document)
 
 
