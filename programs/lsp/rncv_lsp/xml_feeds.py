@@ -50,8 +50,8 @@ class PyxFeed(Feed):
     def start(self, name: str, attributes: List[str], scope: Dict[str, str]) -> None:
         """Takes a start tag. The library finds the declarations among the attributes."""
         self._add("(" + name)
-        for each, value in zip(attributes[::2], attributes[1::2]):
-            self._add(f"A{each} {escaped(value)}")
+        for at in range(0, len(attributes), 2):
+            self._add(f"A{attributes[at]} {escaped(attributes[at + 1])}")
 
     def end(self, name: str) -> None:
         """Takes an end tag."""
@@ -60,7 +60,7 @@ class PyxFeed(Feed):
     def text(self, words: str) -> None:
         """Takes a text, in lines that are not too long."""
         if len(words) <= LINE_LENGTH:
-            self._add("-" + escaped(words))
+            self._add("-" + (escaped(words) if "\\" in words or "\n" in words or "\t" in words else words))
             return
         for at in range(0, len(words), LINE_LENGTH):
             self._add("-" + escaped(words[at:at + LINE_LENGTH]))

@@ -2,6 +2,7 @@
 before that place stays the same, so that a keystroke near the end of a long document takes little time."""
 from __future__ import annotations
 
+import bisect
 import re
 import xml.parsers.expat
 from typing import Any, Dict, List, NamedTuple, Optional, Tuple
@@ -62,13 +63,15 @@ class Reading:
 
     def __init__(self, feed: Optional[Feed] = None, inside: Optional[OpenElement] = None) -> None:
         self.lines, self.at = Text(), inside.start if inside is not None else 0
-        self.open: List[OpenElement] = []
         self.has_root = self.is_in_data = False
         self.feed, self._inside = feed or Feed(), inside
+        # For each open element the name, the declarations, and how many bytes are before its tag; and where these places are that were asked for.
+        self._stack: List[Tuple[str, Dict[str, str], int]] = []
+        self._places: Dict[int, int] = {}
         # Where a fault is; and behind that, up to where tags were told, and the elements that are open there.
-        self._fault_at, self._loose = -1, (0, self.open)
-        # How many bytes were parsed, those that are parsed now, and how many of these have so many characters before them.
-        self._bytes, self._data, self._counted = 0, b"", (0, 0)
+        self._fault_at, self._loose = -1, (-1, [])  # type: int, Tuple[int, List[OpenElement]]
+        # How many bytes were parsed; and where each part of them begins, in bytes and in characters.
+        self._bytes, self._parts = 0, []  # type: int, List[Tuple[int, int]]
         self._parser: Any = xml.parsers.expat.ParserCreate("UTF-8")
         self._prepare()
 
@@ -87,52 +90,57 @@ class Reading:
 
     def _start(self, name: str, attributes: List[str]) -> None:
         """Takes a start tag."""
-        open_elements = self.open
-        scope = open_elements[-1].scope if open_elements else FIRST_SCOPE
+        stack = self._stack
+        scope = stack[-1][1] if stack else FIRST_SCOPE
         if attributes:
             scope = scope_in(scope, attributes)
-        open_elements.append(OpenElement(name, scope, self._place()))
+        stack.append((name, scope, self._parser.CurrentByteIndex))
         self.has_root = True
         self.feed.start(name, attributes, scope)
 
     def _start_inside(self, name: str, attributes: List[str]) -> None:
         """Takes a start tag. The element and its children get all declarations that hold in them."""
-        outer = self.open[-1].scope if self.open else {}
-        scope = scope_in(outer, attributes) if self.open else self._inside.scope
-        is_new = scope is not outer and len(self.open) < 2
+        stack = self._stack
+        outer = stack[-1][1] if stack else {}
+        scope = scope_in(outer, attributes) if stack else self._inside.scope
+        is_new = scope is not outer and len(stack) < 2
         declared = [(prefix, uri) for prefix, uri in scope.items() if prefix != "xml"] if is_new else []
-        self.open.append(OpenElement(name, scope, self._place()))
+        stack.append((name, scope, self._parser.CurrentByteIndex))
         self.has_root = True
-        if len(self.open) <= 2:
+        if len(stack) <= 2:
             self.feed.start(name, [word for prefix, uri in declared for word in (f"xmlns:{prefix}" if prefix else "xmlns", uri)], scope)
-
-    def _place(self) -> int:
-        """Where the tag begins that the parser has read."""
-        ahead, (counted, place) = self._parser.CurrentByteIndex - self._bytes, self._counted
-        if ahead < counted:  # the tag began in a part that was parsed before
-            return before(self.lines, place, counted - ahead)
-        self._counted = ahead, place + length(self._data[counted:ahead])
-        return self._counted[1]
 
     def _end(self, name: str) -> None:
         """Takes an end tag."""
-        del self.open[-1]
+        del self._stack[-1]
         self.feed.end(name)
 
     def _end_inside(self, name: str) -> None:
         """Takes an end tag."""
-        del self.open[-1]
-        if len(self.open) <= 1:
+        del self._stack[-1]
+        if len(self._stack) <= 1:
             self.feed.end(name)
 
     def _text_inside(self, words: str) -> None:
         """Takes a text."""
-        if len(self.open) == 1:
+        if len(self._stack) == 1:
             self.feed.text(words)
 
     def _set_data(self, is_in_data: bool) -> None:
         """Takes the beginning or the end of a section CDATA."""
         self.is_in_data = is_in_data
+
+    @property
+    def open(self) -> List[OpenElement]:
+        """The open elements."""
+        self._places = {count: self._places[count] if count in self._places else self._place(count) for _, _, count in self._stack}
+        return [OpenElement(name, scope, self._places[count]) for name, scope, count in self._stack]
+
+    def _place(self, count: int) -> int:
+        """The place behind so many bytes."""
+        begin, place = self._parts[bisect.bisect_right(self._parts, (count, self.at)) - 1]
+        data = self.lines.slice(place, place + count - begin).encode("utf-8", "surrogatepass")
+        return place + length(data[:count - begin])
 
     def continues(self, lines: Text, end: int) -> bool:
         """Whether the text has not changed before the place up to which it was read, which is not behind the new end. Some parsers wait for more text behind
@@ -163,21 +171,18 @@ class Reading:
         """Parses what follows a place. A byte order mark is left out."""
         words = self.lines.slice(begin, self.at)
         words = words[1:] if begin == 0 and words.startswith("\ufeff") else words
-        self._data, self._counted = words.encode("utf-8", "surrogatepass"), (0, self.at - len(words))
+        data = words.encode("utf-8", "surrogatepass")
+        self._parts.append((self._bytes, self.at - len(words)))
         try:
-            self._parser.Parse(self._data, False)
+            self._parser.Parse(data, False)
         except xml.parsers.expat.ExpatError:
-            # The fault is in these bytes, or in those that the parser kept.
-            ahead = self._parser.ErrorByteIndex - self._bytes
-            self._fault_at = self.at - len(words) + length(self._data[:ahead]) if ahead >= 0 else before(self.lines, begin, -ahead)
-        self._bytes += len(self._data)
+            self._fault_at = self._place(self._parser.ErrorByteIndex)
+        self._bytes += len(data)
 
     def unfinished(self) -> int:
         """Where the markup begins that is not finished at the place up to which was read; that place if there is none."""
-        left = self._bytes - self._parser.CurrentByteIndex if self.has_root and self._fault_at < 0 else 0
-        if not 0 < left <= self._bytes:
-            return self.at
-        return before(self.lines, self.at, left)
+        count = self._parser.CurrentByteIndex if self.has_root and self._fault_at < 0 else self._bytes
+        return self._place(count) if 0 <= count < self._bytes else self.at
 
     @property
     def fault_at(self) -> Optional[int]:
@@ -187,12 +192,6 @@ class Reading:
     def expected(self) -> Optional[rncv.Expected]:
         """What may come next; None if that is not known, since the document is not valid before that, or is not well formed."""
         return self.feed.expected() if self._fault_at < 0 else None
-
-
-def before(lines: Text, place: int, count: int) -> int:
-    """The place so many bytes before another one."""
-    data = lines.slice(place - count, place).encode("utf-8", "surrogatepass")
-    return place - length(data[-count:])
 
 
 def length(data: bytes) -> int:
