@@ -59,6 +59,7 @@ class Coordinator:
         self._reported: Set[str] = set()
         self._states: Dict[str, Any] = {}
         self._tasks: Dict[str, Task] = {}
+        self._sets: Dict[str, Optional[SchemaSet]] = {}
         self._validators: Dict[str, Tuple[str, rncv.Validator]] = {}
         self.prepare: Callable[[Task], None] = lambda task: None
 
@@ -76,6 +77,10 @@ class Coordinator:
     def task_of(self, uri: str) -> Optional[Task]:
         """The last task for a document; None if there was none yet."""
         return self._tasks.get(uri)
+
+    def schema_of(self, uri: str) -> Optional[SchemaSet]:
+        """The files of a document's schema as they were last, if there are any."""
+        return self._sets.get(uri)
 
     def _work(self) -> None:
         """Judges again and again."""
@@ -153,6 +158,7 @@ class Coordinator:
     def _put(self, task: Task) -> None:
         """Starts to judge a document, unless that was done for an equal task."""
         uri, task = task.document.uri, dataclasses.replace(task, clauses_url=self.settings.clauses_url)
+        self._sets[uri] = task.schema
         if not task.is_like(self._tasks.get(uri)):
             self._tasks[uri] = task
             self._jobs.put(uri, lambda: self._judge(task))
@@ -194,6 +200,7 @@ class Coordinator:
         """Forgets what belongs to closed documents, and to schemas that are not used. `named` has the open documents in XML."""
         for uri in [uri for uri in self._tasks if uri not in named]:
             del self._tasks[uri]
+            self._sets.pop(uri, None)
             self._validators.pop(uri, None)
         self._publisher.drop(lambda name: name.startswith("xml:") and name[4:] not in named)
         self._schemas.keep([outcome.name for outcome in outcomes.values()])

@@ -52,12 +52,12 @@ class Declaration:
 class Declarations:
     """The declarations of a schema."""
 
-    def __init__(self, schema: SchemaSet) -> None:
+    def __init__(self, schema: Optional[SchemaSet] = None) -> None:
         self._by_local: Dict[Tuple[str, str], List[Declaration]] = {}
         self._inside: Dict[Name, Set[Declaration]] = {}
         self.prefixes: Dict[str, str] = {}
         self._definitions: Dict[str, List[Body]] = {}
-        for file in {file.key: file for file in schema.files.values()}.values():
+        for file in {file.key: file for file in schema.files.values()}.values() if schema is not None else ():
             reader = FileReader(file, "" if file.key == schema.main.key else None)
             reader.read()
             self._add(reader)

@@ -91,7 +91,7 @@ class XmlAnswers:
         is_by_character = isinstance(asked_by, dict) and asked_by.get("triggerKind") == BY_CHARACTER
         if cursor.kind == "content" and is_by_character and asked_by.get("triggerCharacter") in ONLY_IN_TAGS:
             return None
-        known = self._knowledge(task) if task is not None and task.outcome is not None else None
+        known = self._knowledge(document.uri, task.outcome) if task is not None and task.outcome is not None else None
         asked = Asked(document.lines, cursor, expected, self._documents.encoding, self.has_snippets)
         return {"isIncomplete": task is None, "items": Completion(asked, known).items()}
 
@@ -113,10 +113,10 @@ class XmlAnswers:
         if document is None:
             return None
         encoding = self._documents.encoding
-        task = self._coordinator.task_of(document.uri)
         model = next((model for model in document.models if model.is_compact), None)
         if model is not None and model.start <= offset <= model.end:
-            return [] if task is None or task.schema is None else [{"uri": uri_of_file(task.schema.main), "range": Text().range(0, 0, encoding)}]
+            schema = self._coordinator.schema_of(document.uri)
+            return [] if schema is None else [{"uri": uri_of_file(schema.main), "range": Text().range(0, 0, encoding)}]
         return [{"uri": uri_of_file(each.file), "range": each.file.lines.range(each.name_start, each.name_end, encoding)}
                 for each in self._declared(document, offset)[1]]
 
@@ -192,9 +192,10 @@ class XmlAnswers:
             reading = self._telling[document.uri] = Reading()
         return reading
 
-    def _knowledge(self, task: Task) -> Knowledge:
+    def _knowledge(self, uri: str, outcome: Outcome) -> Knowledge:
         """What is known of the schema of a document."""
-        return Knowledge(self._form(task.outcome), self._declarations_of(task.schema))
+        schema = self._coordinator.schema_of(uri)
+        return Knowledge(self._form(outcome), self._declarations_of(schema) if schema is not None else Declarations())
 
     def _form(self, outcome: Outcome) -> Form:
         """The simple form of a schema."""
@@ -205,7 +206,7 @@ class XmlAnswers:
         if task.outcome is None or task.outcome.validator is None:
             return
         with contextlib.suppress(MemoryError):  # an answer reports that
-            self._knowledge(task).form.prepare()
+            self._knowledge(task.document.uri, task.outcome).form.prepare()
             self._elements.find(task.outcome.name, lambda: elements_by(self._form(task.outcome)))
 
     def _declarations_of(self, schema: SchemaSet) -> Declarations:
@@ -218,8 +219,7 @@ class XmlAnswers:
         offset = end_of_name(document.lines, offset)
         root = self._far_root(document, offset)
         cursor = cursor_at(self._reading(document, offset), document.lines, offset) if root is None else cursor_far(document.lines, root, offset)
-        task = self._coordinator.task_of(document.uri)
-        schema = task.schema if task is not None else None
+        schema = self._coordinator.schema_of(document.uri)
         if schema is None or not 0 < cursor.end - cursor.start or cursor.kind not in ("element", "end", "attribute"):
             return cursor, []
         declarations = self._declarations_of(schema)

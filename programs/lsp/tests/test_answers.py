@@ -1,5 +1,6 @@
 """Tests of the answers about a place in an XML document: what may come there, hover and definition."""
 import re
+import time
 import unittest
 
 from client import WithServer
@@ -195,6 +196,13 @@ class Broken(Asking):
         self.assertEqual(self.labels(f"{text}<|"), ["/letter"])
         self.assertIn("Its title", self.asked("hover", f"{text}<tit|le/></letter>")["contents"]["value"])
         self.assertEqual(self.labels('<?xml-model href="none.rnc"?><a><|'), ["/a"])
+        self.write("bad.rnc", LETTER.replace("Its title", "Another") + "para = empty")
+        for _ in range(100):
+            words = self.asked("hover", f"{text}<tit|le/></letter>")["contents"]["value"]
+            if "Another" in words:
+                break
+            time.sleep(0.1)
+        self.assertIn("Another", words)
 
     def test_what_is_not_valid_before(self):
         self.assertEqual(self.labels(f"{BEGIN}<end/><end/><|"), ["title", "para", "note", "end", "/letter"])
