@@ -26,8 +26,8 @@ class Body:
 
 @dataclasses.dataclass(eq=False)
 class Declaration:
-    """A pattern `element` or `attribute` of a file, from `start` to `end`, with its first name from `name_start` to `name_end`. A URI in its names is None if it
-    is not known."""
+    """A pattern `element` or `attribute` of a file, from `start` to `end`, with its first name from `name_start` to `name_end`. A URI in its names is None if
+    it is not known."""
 
     kind: str
     names: List[Tuple[Optional[str], str]]

@@ -8,11 +8,11 @@ from rncv_lsp import DATATYPES
 from rncv_lsp.coordinator import Coordinator
 from rncv_lsp.documents import Documents, new_document, path_of
 from rncv_lsp.framing import FramingFault, MessageReader
-from rncv_lsp.rpc import INTERNAL_ERROR, INVALID_REQUEST, NOT_INITIALIZED, PARSE_ERROR, Connection, Dispatcher, RpcFault, member
+from rncv_lsp.rpc import INTERNAL_ERROR, INVALID_REQUEST, NOT_INITIALIZED, PARSE_ERROR, Connection, Dispatcher, RpcFault, member, within
 from rncv_lsp.settings import settings_of
 from rncv_lsp.texts import CODECS
 from rncv_lsp.versions import shown_version
-from rncv_lsp.xml_answers import CAPABILITIES, XmlAnswers
+from rncv_lsp.xml_answers import XmlAnswers
 
 INCREMENTAL = 2
 
@@ -33,12 +33,7 @@ class Server:
         self._state = "new"
         self._asks_settings = False
         self._dispatcher = Dispatcher(self._connection, self._allow)
-        self._dispatcher.requests.update({"initialize": self._initialize, "shutdown": self._shutdown})
-        self._dispatcher.requests.update({
-            "textDocument/completion": self._answers.completion,
-            "textDocument/hover": self._answers.hover,
-            "textDocument/definition": self._answers.definition,
-        })
+        self._dispatcher.requests.update({"initialize": self._initialize, "shutdown": self._shutdown, **self._answers.requests})
         self._dispatcher.notifications.update({
             "initialized": lambda params: self._ask_settings(),
             "exit": self._exit,
@@ -90,9 +85,6 @@ class Server:
         known = [each for each in offered if isinstance(each, str) and each in CODECS] if isinstance(offered, list) else []
         self._documents.encoding = known[0] if known else "utf-16"
         self._asks_settings = within(params, "capabilities", "workspace", "configuration") is True
-        self._answers.has_snippets = within(params, "capabilities", "textDocument", "completion", "completionItem", "snippetSupport") is True
-        formats = within(params, "capabilities", "textDocument", "hover", "contentFormat")
-        self._answers.has_markdown = isinstance(formats, list) and "markdown" in formats
         self._coordinator.roots = tuple(folders_of(params))
         self._set(within(params, "initializationOptions"))
         self._coordinator.start()
@@ -101,7 +93,7 @@ class Server:
             "capabilities": {
                 "positionEncoding": self._documents.encoding,
                 "textDocumentSync": {"openClose": True, "change": INCREMENTAL, "save": {"includeText": False}},
-                **CAPABILITIES,
+                **self._answers.initialize(params),
                 "workspace": {"workspaceFolders": {"supported": True, "changeNotifications": True}},
             },
             "serverInfo": {"name": "rncv-lsp", "version": shown_version()},
@@ -165,13 +157,6 @@ class Server:
         kept = [root for root in self._coordinator.roots if root not in gone]
         self._coordinator.roots = tuple(dict.fromkeys([*kept, *folders_in(event.get("added"))]))
         self._coordinator.touch()
-
-
-def within(value: Any, *names: str) -> Any:
-    """The member at this path of names; None if one is missing."""
-    for name in names:
-        value = value.get(name) if isinstance(value, dict) else None
-    return value
 
 
 def folders_in(listed: Any) -> List[str]:

@@ -11,7 +11,7 @@ from rncv_lsp import DATATYPES
 from rncv_lsp.coordinator import Coordinator, Task, uri_of_file
 from rncv_lsp.documents import Document, Documents
 from rncv_lsp.outside import rncv
-from rncv_lsp.rpc import member
+from rncv_lsp.rpc import Handler, member, within
 from rncv_lsp.schema_declarations import Declaration, Declarations
 from rncv_lsp.schema_files import SchemaSet
 from rncv_lsp.schemas import Outcome, name_of
@@ -64,15 +64,27 @@ class Cache:
 
 
 class XmlAnswers:
-    """Answers about documents, to the thread that reads messages. Another one gets ready what is known of schemas."""
+    """Answers about XML documents, to the thread that reads messages; none about other documents. Another thread gets ready what is known of schemas."""
 
     def __init__(self, documents: Documents, coordinator: Coordinator) -> None:
         self._documents, self._coordinator = documents, coordinator
         self._forms, self._declarations, self._elements = Cache(), Cache(), Cache()
         self._expecting: Dict[Tuple[str, bool], Kept] = {}
         self._telling: Dict[str, Reading] = {}
-        self.has_snippets = self.has_markdown = False
+        self._has_snippets = self._has_markdown = False
         coordinator.prepare = self._prepare
+        self.requests: Dict[str, Handler] = {
+            "textDocument/completion": self._completion,
+            "textDocument/hover": self._hover,
+            "textDocument/definition": self._definition,
+        }
+
+    def initialize(self, params: Any) -> Dict[str, Any]:
+        """Notes what the client can, and returns what the server can."""
+        formats = within(params, "capabilities", "textDocument", "hover", "contentFormat")
+        self._has_markdown = isinstance(formats, list) and "markdown" in formats
+        self._has_snippets = within(params, "capabilities", "textDocument", "completion", "completionItem", "snippetSupport") is True
+        return CAPABILITIES
 
     def forget(self, uri: str) -> None:
         """Forgets what belongs to a closed document."""
@@ -80,7 +92,7 @@ class XmlAnswers:
         self._expecting.pop((uri, True), None)
         self._telling.pop(uri, None)
 
-    def completion(self, params: Any) -> Any:
+    def _completion(self, params: Any) -> Any:
         """What may come at a position. As long as the schema is not known yet, the client is told to ask again."""
         document, offset = self._place(params)
         if document is None:
@@ -92,10 +104,10 @@ class XmlAnswers:
         if cursor.kind == "content" and is_by_character and asked_by.get("triggerCharacter") in ONLY_IN_TAGS:
             return None
         known = self._knowledge(document.uri, task.outcome) if task is not None and task.outcome is not None else None
-        asked = Asked(document.lines, cursor, expected, self._documents.encoding, self.has_snippets)
+        asked = Asked(document.lines, cursor, expected, self._documents.encoding, self._has_snippets)
         return {"isIncomplete": task is None, "items": Completion(asked, known).items()}
 
-    def hover(self, params: Any) -> Any:
+    def _hover(self, params: Any) -> Any:
         """What the schema says of the name at a position."""
         document, offset = self._place(params)
         if document is None:
@@ -104,10 +116,10 @@ class XmlAnswers:
         if not found:
             return None
         words = "\n\n".join(map(self._shown, found[:MOST_SHOWN]))
-        return {"contents": {"kind": "markdown" if self.has_markdown else "plaintext", "value": words},
+        return {"contents": {"kind": "markdown" if self._has_markdown else "plaintext", "value": words},
                 "range": document.lines.range(cursor.start, cursor.end, self._documents.encoding)}
 
-    def definition(self, params: Any) -> Any:
+    def _definition(self, params: Any) -> Any:
         """Where the schema declares the name at a position; in the instruction that names the schema, where that is."""
         document, offset = self._place(params)
         if document is None:
@@ -236,7 +248,7 @@ class XmlAnswers:
         path = os.path.relpath(file.path, root) if root is not None else file.path
         place = f"{path}:{file.lines.position(declaration.start, self._documents.encoding)['line'] + 1}"
         source = cut_source(declaration.source)
-        if not self.has_markdown:
+        if not self._has_markdown:
             return "\n\n".join(filter(None, (place, declaration.documentation, source)))
         fence = "`" * max(3, *(len(run) + 1 for run in re.findall("`+", source) or [""]))
         return "\n\n".join(filter(None, (f"`{place}`", declaration.documentation, f"{fence}rnc\n{source}\n{fence}")))

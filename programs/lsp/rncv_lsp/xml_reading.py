@@ -58,8 +58,8 @@ def scope_in(scope: Dict[str, str], attributes: List[str]) -> Dict[str, str]:
 
 
 class Reading:
-    """What was read of a document, and handed on by a feed. With `inside` only that element is read and handed on, with its texts and empty children, and without
-    attributes, for a schema of such elements: what is wrong around it, in its children, or with attributes, does not count."""
+    """What was read of a document, and handed on by a feed. With `inside` only that element is read and handed on, with its texts and empty children, and
+    without attributes, for a schema of such elements: what is wrong around it, in its children, or with attributes, does not count."""
 
     def __init__(self, feed: Optional[Feed] = None, inside: Optional[OpenElement] = None) -> None:
         self.lines, self.at = Text(), inside.start if inside is not None else 0
