@@ -8,6 +8,7 @@ from rncv_lsp import DATATYPES
 from rncv_lsp.coordinator import Coordinator
 from rncv_lsp.documents import Documents, new_document, path_of
 from rncv_lsp.framing import FramingFault, MessageReader
+from rncv_lsp.parts import joined_capabilities, joined_requests
 from rncv_lsp.rpc import INTERNAL_ERROR, INVALID_REQUEST, NOT_INITIALIZED, PARSE_ERROR, Connection, Dispatcher, RpcFault, member, within
 from rncv_lsp.settings import settings_of
 from rncv_lsp.texts import CODECS
@@ -30,10 +31,12 @@ class Server:
         self._documents = Documents()
         self._coordinator = Coordinator(self._documents, self._connection, datatypes)
         self._answers = XmlAnswers(self._documents, self._coordinator)
+        self._parts = (self._answers,)
         self._state = "new"
         self._asks_settings = False
         self._dispatcher = Dispatcher(self._connection, self._allow)
-        self._dispatcher.requests.update({"initialize": self._initialize, "shutdown": self._shutdown, **self._answers.requests})
+        self._dispatcher.requests.update({"initialize": self._initialize, "shutdown": self._shutdown})
+        self._dispatcher.requests.update(joined_requests(part.requests for part in self._parts))
         self._dispatcher.notifications.update({
             "initialized": lambda params: self._ask_settings(),
             "exit": self._exit,
@@ -93,7 +96,7 @@ class Server:
             "capabilities": {
                 "positionEncoding": self._documents.encoding,
                 "textDocumentSync": {"openClose": True, "change": INCREMENTAL, "save": {"includeText": False}},
-                **self._answers.initialize(params),
+                **joined_capabilities([part.initialize(params) for part in self._parts]),
                 "workspace": {"workspaceFolders": {"supported": True, "changeNotifications": True}},
             },
             "serverInfo": {"name": "rncv-lsp", "version": shown_version()},
