@@ -128,9 +128,9 @@ class XmlAnswers:
         model = next((model for model in document.models if model.is_compact), None)
         if model is not None and model.start <= offset <= model.end:
             schema = self._coordinator.schema_of(document.uri)
-            return [] if schema is None else [{"uri": uri_of_file(schema.main), "range": Text().range(0, 0, encoding)}]
-        return [{"uri": uri_of_file(each.file), "range": each.file.lines.range(each.name_start, each.name_end, encoding)}
-                for each in self._declared(document, offset)[1]]
+            return None if schema is None else [{"uri": uri_of_file(schema.main), "range": Text().range(0, 0, encoding)}]
+        found = self._declared(document, offset)[1]
+        return [{"uri": uri_of_file(each.file), "range": each.file.lines.range(each.name_start, each.name_end, encoding)} for each in found] or None
 
     def _place(self, params: Any) -> Tuple[Optional[Document], int]:
         """The document in XML that is meant, if it is open, and the offset in it."""
