@@ -4,7 +4,7 @@ from __future__ import annotations
 import dataclasses
 import threading
 import time
-from typing import Any, Dict, List, Optional, Set, Tuple
+from typing import Any, Callable, Dict, List, Optional, Set, Tuple
 
 from rncv_lsp import DATATYPES
 from rncv_lsp.documents import Document, Documents, uri_of
@@ -28,12 +28,14 @@ SETTLE_SECONDS, SETTLE_LENGTH, MOST_SETTLE_SECONDS, MOST_SETTLES, POLL_SECONDS =
 
 @dataclasses.dataclass(frozen=True)
 class Task:
-    """An XML document to judge: by a schema, or only whether it is well formed. `findings` are about how the document names its schema."""
+    """An XML document to judge: by a schema, or only whether it is well formed. `findings` are about how the document names its schema, and `schema` has the
+    files of that, even if they are refused."""
 
     document: Document
     outcome: Optional[Outcome] = None
     findings: Tuple[Finding, ...] = ()
     clauses_url: str = ""
+    schema: Optional[SchemaSet] = None
 
     def is_like(self, other: Optional["Task"]) -> bool:
         """Whether the other task has the same answer."""
@@ -43,7 +45,7 @@ class Task:
 
 
 class Coordinator:
-    """Judges the open documents, and publishes what is found."""
+    """Judges the open documents, and publishes what is found. In the thread that has judged a document `prepare` gets ready what may be asked about it."""
 
     def __init__(self, documents: Documents, connection: Connection, datatypes: str = DATATYPES[0]) -> None:
         self.settings, self.roots = Settings(), ()  # type: Settings, Tuple[str, ...]
@@ -57,7 +59,9 @@ class Coordinator:
         self._reported: Set[str] = set()
         self._states: Dict[str, Any] = {}
         self._tasks: Dict[str, Task] = {}
+        self._sets: Dict[str, Optional[SchemaSet]] = {}
         self._validators: Dict[str, Tuple[str, rncv.Validator]] = {}
+        self.prepare: Callable[[Task], None] = lambda task: None
 
     def start(self) -> None:
         """Starts to judge."""
@@ -69,6 +73,14 @@ class Coordinator:
             self._settle = max(self._settle, min(SETTLE_SECONDS + document.lines.length / SETTLE_LENGTH, MOST_SETTLE_SECONDS))
         self._changed_at = time.monotonic()
         self._changed.set()
+
+    def task_of(self, uri: str) -> Optional[Task]:
+        """The last task for a document; None if there was none yet."""
+        return self._tasks.get(uri)
+
+    def schema_of(self, uri: str) -> Optional[SchemaSet]:
+        """The files of a document's schema as they were last, if there are any."""
+        return self._sets.get(uri)
 
     def _work(self) -> None:
         """Judges again and again."""
@@ -146,6 +158,7 @@ class Coordinator:
     def _put(self, task: Task) -> None:
         """Starts to judge a document, unless that was done for an equal task."""
         uri, task = task.document.uri, dataclasses.replace(task, clauses_url=self.settings.clauses_url)
+        self._sets[uri] = task.schema
         if not task.is_like(self._tasks.get(uri)):
             self._tasks[uri] = task
             self._jobs.put(uri, lambda: self._judge(task))
@@ -164,6 +177,7 @@ class Coordinator:
             return
         reported_of = [self._diagnostic(document.lines, finding) for finding in (*task.findings, *found)]
         self._publisher.set_one(f"xml:{document.uri}", document.uri, reported_of, lambda: None if is_cancelled() else document.version)
+        self.prepare(task)
 
     def _found(self, task: Task, is_cancelled: Cancelled) -> List[Finding]:
         """What is found in a document. Without the library for XML it is only judged whether the document is well formed."""
@@ -186,6 +200,7 @@ class Coordinator:
         """Forgets what belongs to closed documents, and to schemas that are not used. `named` has the open documents in XML."""
         for uri in [uri for uri in self._tasks if uri not in named]:
             del self._tasks[uri]
+            self._sets.pop(uri, None)
             self._validators.pop(uri, None)
         self._publisher.drop(lambda name: name.startswith("xml:") and name[4:] not in named)
         self._schemas.keep([outcome.name for outcome in outcomes.values()])
@@ -207,5 +222,5 @@ def task_of(document: Document, named: Named, schema: Optional[SchemaSet], outco
     outcome = outcomes[schema.main.key]
     what = refusal(schema, outcome)
     if what is not None:
-        return Task(document, None, (Finding(named.start, named.end, what, "schema"),))
-    return Task(document, outcome if outcome.validator is not None else None)
+        return Task(document, None, (Finding(named.start, named.end, what, "schema"),), schema=schema)
+    return Task(document, outcome if outcome.validator is not None else None, schema=schema)

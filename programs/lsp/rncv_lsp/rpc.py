@@ -31,6 +31,13 @@ def member(value: Any, name: str, kind: Any) -> Any:
     return found
 
 
+def within(value: Any, *names: str) -> Any:
+    """The member at this path of names; None if one is missing."""
+    for name in names:
+        value = value.get(name) if isinstance(value, dict) else None
+    return value
+
+
 def error_answer(identity: Any, fault: RpcFault) -> Dict[str, Any]:
     """The answer to a request that failed."""
     return {"jsonrpc": "2.0", "id": identity, "error": {"code": fault.code, "message": fault.what}}

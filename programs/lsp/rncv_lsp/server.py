@@ -8,10 +8,12 @@ from rncv_lsp import DATATYPES
 from rncv_lsp.coordinator import Coordinator
 from rncv_lsp.documents import Documents, new_document, path_of
 from rncv_lsp.framing import FramingFault, MessageReader
-from rncv_lsp.rpc import INTERNAL_ERROR, INVALID_REQUEST, NOT_INITIALIZED, PARSE_ERROR, Connection, Dispatcher, RpcFault, member
+from rncv_lsp.parts import joined_capabilities, joined_requests
+from rncv_lsp.rpc import INTERNAL_ERROR, INVALID_REQUEST, NOT_INITIALIZED, PARSE_ERROR, Connection, Dispatcher, RpcFault, member, within
 from rncv_lsp.settings import settings_of
 from rncv_lsp.texts import CODECS
 from rncv_lsp.versions import shown_version
+from rncv_lsp.xml_answers import XmlAnswers
 
 INCREMENTAL = 2
 
@@ -28,10 +30,13 @@ class Server:
         self._connection = Connection(sink)
         self._documents = Documents()
         self._coordinator = Coordinator(self._documents, self._connection, datatypes)
+        self._answers = XmlAnswers(self._documents, self._coordinator)
+        self._parts = (self._answers,)
         self._state = "new"
         self._asks_settings = False
         self._dispatcher = Dispatcher(self._connection, self._allow)
         self._dispatcher.requests.update({"initialize": self._initialize, "shutdown": self._shutdown})
+        self._dispatcher.requests.update(joined_requests(part.requests for part in self._parts))
         self._dispatcher.notifications.update({
             "initialized": lambda params: self._ask_settings(),
             "exit": self._exit,
@@ -91,6 +96,7 @@ class Server:
             "capabilities": {
                 "positionEncoding": self._documents.encoding,
                 "textDocumentSync": {"openClose": True, "change": INCREMENTAL, "save": {"includeText": False}},
+                **joined_capabilities([part.initialize(params) for part in self._parts]),
                 "workspace": {"workspaceFolders": {"supported": True, "changeNotifications": True}},
             },
             "serverInfo": {"name": "rncv-lsp", "version": shown_version()},
@@ -117,7 +123,9 @@ class Server:
 
     def _closed(self, params: Any) -> None:
         """A document is closed."""
-        self._documents.close(member(member(params, "textDocument", dict), "uri", str))
+        uri = member(member(params, "textDocument", dict), "uri", str)
+        self._documents.close(uri)
+        self._answers.forget(uri)
         self._coordinator.touch()
 
     def _configured(self, params: Any) -> None:
@@ -152,13 +160,6 @@ class Server:
         kept = [root for root in self._coordinator.roots if root not in gone]
         self._coordinator.roots = tuple(dict.fromkeys([*kept, *folders_in(event.get("added"))]))
         self._coordinator.touch()
-
-
-def within(value: Any, *names: str) -> Any:
-    """The member at this path of names; None if one is missing."""
-    for name in names:
-        value = value.get(name) if isinstance(value, dict) else None
-    return value
 
 
 def folders_in(listed: Any) -> List[str]:

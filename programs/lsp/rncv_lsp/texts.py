@@ -122,6 +122,15 @@ class Text:
         """What is between two offsets."""
         return "".join(self.parts(max(0, start), min(end, self.length)))
 
+    def begins_like(self, other: Text, length: int) -> bool:
+        """Whether the first characters of two texts are the same. Pieces that both have are not compared."""
+        shared = 0
+        for mine, its in zip(self.pieces, other.pieces):
+            if mine is not its:
+                break
+            shared += mine.length
+        return shared >= length or self.slice(shared, length) == other.slice(shared, length)
+
     def line_start(self, line: int) -> int:
         """Where a line (counted from 0) begins."""
         if line <= 0:

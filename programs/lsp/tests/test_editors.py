@@ -42,6 +42,15 @@ vim.wait(60000, function() return codes() == "" end, 20)
 vim.api.nvim_buf_set_lines(0, 1, 1, true, { "<!-- \\u{3042} -->", "<b/>" })
 vim.wait(60000, function() return codes() == "malformed" end, 20)
 io.stdout:write(vim.diagnostic.get(0)[1].lnum .. "|" .. #(vim.lsp.get_clients or vim.lsp.get_active_clients)() .. "\\n")
+vim.cmd("edit! a.xhtml")
+local start = "<html xmlns='http://www.w3.org/1999/xhtml'><"
+vim.api.nvim_buf_set_lines(0, 0, -1, true, { start })
+vim.wait(60000, function() return codes() == "malformed" end, 20)
+local place = { textDocument = vim.lsp.util.make_text_document_params(), position = { line = 0, character = #start } }
+for _, answer in pairs(vim.lsp.buf_request_sync(0, "textDocument/completion", place, 60000)) do
+  for _, item in ipairs(answer.result.items) do io.stdout:write(item.label .. "|") end
+end
+io.stdout:write("\\n")
 vim.cmd("qa!")
 """
 EMACS_FILES = {"a.rnc": "rnc-mode", "a.rng": "nxml-mode", "a.xml": "nxml-mode", "a.xhtml": "mhtml-mode", "a.xsl": "nxml-mode", "book.xml": "nxml-mode",
@@ -97,8 +106,8 @@ class Editors(unittest.TestCase):
         self.write("init.lua", settings("init.lua"))
         self.write("script.lua", NVIM_SCRIPT % ", ".join(f'["{name}"] = "{code}"' for name, (_, code) in FILES.items()))
         lines, errors = self.lines("nvim", "--headless", "-u", str(self.folder / "init.lua"), "-S", str(self.folder / "script.lua"))
-        self.assertEqual(sorted(lines[:-1]), sorted([name, NVIM_FILETYPES[name], code] for name, (_, code) in FILES.items()), errors)
-        self.assertEqual(lines[-1], ["2", "1"], errors)
+        self.assertEqual(sorted(lines[:-2]), sorted([name, NVIM_FILETYPES[name], code] for name, (_, code) in FILES.items()), errors)
+        self.assertEqual(lines[-2:], [["2", "1"], ["/html", "body", ""]], errors)
 
     @unittest.skipUnless(shutil.which("emacs"), "no emacs here")
     def test_emacs(self):

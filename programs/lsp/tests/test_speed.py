@@ -56,6 +56,21 @@ class Large(WithServer):
         self.assertLess(sorted(times)[50], 0.1)
         self.assertLess(max(times), 2.0)
 
+    def test_completion_behind_each_keystroke(self):
+        """Near the end of 200 KB. An answer takes about a millisecond when nothing else runs, and some 30 if all is read anew."""
+        count = 200_000 // len(ITEM)
+        self.client.open(self.uri_of_document, f"{MODEL}<list>\n" + f"{ITEM}\n" * count + "\n</list>")
+        self.client.found(self.uri_of_document)
+        times = []
+        for column, letter in enumerate("<item at='1'"):
+            self.client.change(self.uri_of_document, column + 2, (count + 2, column, count + 2, column, letter))
+            begin = time.monotonic()
+            place = {"textDocument": {"uri": self.uri_of_document}, "position": {"line": count + 2, "character": column + 1}}
+            answer = self.client.request("textDocument/completion", place)["result"]
+            times.append(time.monotonic() - begin)
+            self.assertEqual(bool(answer["items"]), column < len("<item at"), column)
+        self.assertLess(sorted(times)[len(times) // 2], 0.02)
+
 
 if __name__ == "__main__":
     unittest.main()

@@ -19,6 +19,7 @@ from rncv_lsp.findings import Finding, address, slug  # noqa: E402
 from rncv_lsp.framing import MessageReader  # noqa: E402
 from rncv_lsp.jobs import Jobs  # noqa: E402
 from rncv_lsp.outside import rncv  # noqa: E402
+from rncv_lsp.parts import joined_capabilities, joined_requests  # noqa: E402
 from rncv_lsp.rpc import Connection, Dispatcher  # noqa: E402
 from rncv_lsp.schemas import Outcome  # noqa: E402
 from rncv_lsp.settings import matches  # noqa: E402
@@ -232,6 +233,22 @@ class Faults(unittest.TestCase):
         connection = Connection(Broken())
         connection.log(1, "x")
         connection.notify("x", None)
+
+
+class PartsTest(unittest.TestCase):
+    """Parts that answer requests."""
+
+    def test_requests(self):
+        one, other = {"a": lambda params: params or None, "b": lambda params: "one"}, {"a": lambda params: "other", "c": lambda params: None}
+        found = joined_requests([one, other])
+        self.assertEqual([found[name](0) for name in "abc"], ["other", "one", None])
+        self.assertEqual(found["a"](1), 1)
+        self.assertEqual(joined_requests([]), {})
+
+    def test_capabilities(self):
+        one = {"hover": True, "completion": {"characters": ["<", " "], "more": 1}}
+        other = {"rename": {"prepare": True}, "completion": {"characters": [":", "<"]}}
+        self.assertEqual(joined_capabilities([one, other]), {"hover": True, "rename": {"prepare": True}, "completion": {"characters": ["<", " ", ":"], "more": 1}})
 
 
 if __name__ == "__main__":

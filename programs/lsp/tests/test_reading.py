@@ -1,0 +1,116 @@
+"""Tests of readings up to the cursor, by random documents, edits and places."""
+import random
+import re
+import sys
+import unittest
+
+from client import TOP
+from test_answers import LETTER
+
+sys.path.insert(0, str(TOP / "programs/lsp"))
+from rncv_lsp.outside import rncv  # noqa: E402
+from rncv_lsp.schema_declarations import Declarations  # noqa: E402
+from rncv_lsp.schema_files import SchemaFile, SchemaSet  # noqa: E402
+from rncv_lsp.simple_form import Form  # noqa: E402
+from rncv_lsp.texts import Text  # noqa: E402
+from rncv_lsp.xml_completion import Asked, Completion, Knowledge  # noqa: E402
+from rncv_lsp.xml_cursor import boundary, cursor_at  # noqa: E402
+from rncv_lsp.xml_feeds import EventFeed, PyxFeed  # noqa: E402
+from rncv_lsp.xml_reading import Reading  # noqa: E402
+
+PIECES = ("words", "<!--c \U0001F600 <x> -->", "<?p <q> ?>", "<![CDATA[ <z> ]]>", "&amp;", "\r\n", "\r", "\u00e9", "\U00010000")
+BLANKS = (" ", "\n", "\r\n", "<!-- <a> -->", "<?p?>")
+EDITS = ("", "<", ">", "</", "<p", "x", '"', "'", "&", "<!--", "-->", "]]>", "<![CDATA[", " ", "=", "<a b='", "\r", "<?", "\0", "\ud800", "<!DOCTYPE a [")
+HIDDEN = re.compile(r"<!--.*?-->|<!\[CDATA\[.*?\]\]>|<\?.*?\?>|<!DOCTYPE.*?\]>", re.S)
+ENCODING = "utf-16"
+ROUNDS, EDIT_COUNT = 80, 12
+
+
+def some(chosen, parts, most=3):
+    """Some of these parts, one behind the other."""
+    return "".join(chosen.choice(parts) for _ in range(chosen.randrange(most)))
+
+
+def para(chosen):
+    """An element with others and texts in it."""
+    first, then = (some(chosen, (element, *PIECES), 4) for element in ("<done>yes</done>", "<p>&amp;</p>"))
+    return f"<para>{first}{then}</para>{some(chosen, BLANKS)}"
+
+
+def letter(chosen):
+    """A valid document."""
+    start = chosen.choice(("", "<?xml version='1.0'?>\r\n", "<!DOCTYPE letter [<!ENTITY e '>'> <!-- ' --> ]>\n"))
+    given = chosen.choice(("", " xmlns:n='urn:o' n:sent='true'", ' kind="new old"'))
+    title = chosen.choice(("", f"<title lang='x>y'>{some(chosen, PIECES)}</title>"))
+    notes = "".join(chosen.choice((para(chosen), "<note xmlns='urn:o' id='i'/>")) for _ in range(chosen.randrange(5)))
+    return f"{start}<letter xmlns='urn:l' to='Ada'{given}>{some(chosen, BLANKS)}{title}{notes}{chosen.choice(('', '<end/>'))}</letter>"
+
+
+class Readings(unittest.TestCase):
+    """One schema, and documents that are made by chance."""
+
+    def setUp(self):
+        self.validator = rncv.compile({"s": LETTER.encode()}, datatypes="xml-schema")
+        self.other = self.validator.share()
+        form = Form(self.validator.simple_text().decode())
+        self.elements = rncv.compile({"s": form.schema_of_elements().encode()}, datatypes="xml-schema")
+        main = SchemaFile("s", "/s.rnc", LETTER.encode())
+        self.known = Knowledge(form, Declarations(SchemaSet(main, {"s": main})))
+        for validator in (self.validator, self.other, self.elements):
+            self.addCleanup(validator.close)
+
+    def answer(self, reading, text, place):
+        """The cursor at a place, and the items there. The elements that are open begin at their tags, and each edit is around the cursor in its line."""
+        cursor = cursor_at(reading, text, place)
+        for each in cursor.open:
+            self.assertEqual(text.slice(each.start, each.start + 1 + len(each.name)), "<" + each.name)
+        expected = reading.expected() if cursor.kind in ("element", "content") else None
+        items = Completion(Asked(text, cursor, expected, ENCODING, True), self.known).items()
+        for item in items:
+            start, end = (text.offset(*item["textEdit"]["range"][each].values(), ENCODING) for each in ("start", "end"))
+            self.assertTrue(start <= place <= end and not set(text.slice(start, end)) & set("\r\n"), (cursor, item))
+        return cursor, expected, items
+
+    def test_what_is_there_is_offered(self):
+        for seed in range(ROUNDS):
+            document = letter(random.Random(seed))
+            self.assertTrue(self.other.validate_xml(document.encode()), document)
+            text, reading = Text(document), Reading((EventFeed if seed % 2 else PyxFeed)(self.validator))
+            for found in re.finditer(r"<(/?[a-z]+)", HIDDEN.sub(lambda part: "\0" * len(part[0]), document)):
+                cursor, expected, items = self.answer(reading, text, found.start(1))
+                labels = [item["label"].rpartition(":")[2] for item in items]
+                self.assertIn(found[1].lstrip("/"), labels if found[1][0] != "/" else [label.lstrip("/") for label in labels], (document, cursor))
+                self.check_inside(text, cursor, expected)
+            reading.feed.close()
+
+    def check_inside(self, text, cursor, expected):
+        """In the innermost element alone, without attributes, at least as much is expected."""
+        if not cursor.open or expected is None:
+            return
+        reading = Reading(PyxFeed(self.elements), cursor.open[-1])
+        reading.advance(text, boundary(text, cursor.start))
+        found = reading.expected()
+        reading.feed.close()
+        self.assertTrue(set(expected.elements) <= set(found.elements) and set(expected.values) <= set(found.values), cursor)
+
+    def test_a_reading_that_goes_on(self):
+        for seed in range(ROUNDS):
+            chosen = random.Random(seed)
+            document, kept = letter(chosen), Reading(PyxFeed(self.validator))
+            for _ in range(EDIT_COUNT):
+                at = chosen.randrange(len(document) + 1)
+                document = document[:at] + chosen.choice(EDITS) + document[at + chosen.choice((0, 0, 0, 1, 3, 10)):]
+                place = min(chosen.choice((at, at + 1, chosen.randrange(len(document) + 1))), len(document))
+                place -= document[place - 1:place + 1] == "\r\n"
+                text = Text(document)
+                if not kept.continues(text, place):
+                    kept.feed.close()
+                    kept = Reading(PyxFeed(self.validator))
+                fresh = Reading(PyxFeed(self.other))
+                self.assertEqual(self.answer(kept, text, place), self.answer(fresh, text, place), (document, place))
+                fresh.feed.close()
+            kept.feed.close()
+
+
+if __name__ == "__main__":
+    unittest.main()
