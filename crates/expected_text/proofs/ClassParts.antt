@@ -1,5 +1,5 @@
 -- What is written of a name class, and what is still to be written.
-use Rattle.std.proofs.Common.{◌≡◌, ◌∙◌, ℕ, ◌+◌, ◌<◌, arith, rules, false, true, true≢false, List, [], ◌∷◌, ◌++◌, flat_map, length, map, refl, sym, ap, append_assoc, codes, Vec, Box, Global}
+use Rattle.std.proofs.Common.{◌≡◌, ◌∙◌, ℕ, ◌+◌, rules, false, true, true≢false, List, [], ◌∷◌, ◌++◌, flat_map, length, map, refl, sym, ap, append_assoc, codes, Vec, Box, Global}
 use Rattle.std.proofs.lemmas.Bool.{eqb-true}
 use Rattle.std.proofs.lemmas.Grind.{flat_map-append}
 use Rattle.std.proofs.lemmas.List.{append-nil, nil_from_length}
