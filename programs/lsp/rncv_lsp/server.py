@@ -8,6 +8,7 @@ from rncv_lsp import DATATYPES
 from rncv_lsp.coordinator import Coordinator
 from rncv_lsp.documents import Documents, new_document, path_of
 from rncv_lsp.framing import FramingFault, MessageReader
+from rncv_lsp.rnc_requests import SchemaRequests
 from rncv_lsp.rpc import INTERNAL_ERROR, INVALID_REQUEST, NOT_INITIALIZED, PARSE_ERROR, Connection, Dispatcher, RpcFault, member
 from rncv_lsp.settings import settings_of
 from rncv_lsp.texts import CODECS
@@ -31,7 +32,8 @@ class Server:
         self._state = "new"
         self._asks_settings = False
         self._dispatcher = Dispatcher(self._connection, self._allow)
-        self._dispatcher.requests.update({"initialize": self._initialize, "shutdown": self._shutdown})
+        self._schemas = SchemaRequests(self._documents, lambda: self._coordinator.settings.datatypes or datatypes)
+        self._dispatcher.requests.update({"initialize": self._initialize, "shutdown": self._shutdown, **self._schemas.requests})
         self._dispatcher.notifications.update({
             "initialized": lambda params: self._ask_settings(),
             "exit": self._exit,
@@ -91,6 +93,7 @@ class Server:
             "capabilities": {
                 "positionEncoding": self._documents.encoding,
                 "textDocumentSync": {"openClose": True, "change": INCREMENTAL, "save": {"includeText": False}},
+                **self._schemas.initialize(params),
                 "workspace": {"workspaceFolders": {"supported": True, "changeNotifications": True}},
             },
             "serverInfo": {"name": "rncv-lsp", "version": shown_version()},

@@ -149,10 +149,10 @@ class Messages(WithServer):
         self.assertEqual(self.initialized["serverInfo"]["name"], "rncv-lsp")
 
     def test_unknown_methods(self):
-        self.assertEqual(self.client.request("textDocument/hover", {})["error"]["code"], -32601)
+        self.assertEqual(self.client.request("textDocument/moniker", {})["error"]["code"], -32601)
         self.client.notify("$/cancelRequest", id=1)
         self.client.notify("some/thing")
-        self.assertEqual(self.client.request("textDocument/hover", {})["error"]["code"], -32601)
+        self.assertEqual(self.client.request("textDocument/moniker", {})["error"]["code"], -32601)
         self.assertEqual([message for message in self.client.other if "method" in message], [])
 
     def test_odd_pieces(self):
