@@ -49,7 +49,7 @@ def spot_of(asked: Asked) -> Optional[Spot]:
     tokens = lexed(before)
     is_in_comment = bool(tokens.comments) and tokens.comments[-1][1] == len(before)
     last = tokens.tokens[-1] if tokens.tokens else NOTHING
-    if is_in_comment or tokens.open >= 0 or (last.kind in (OPEN, DOC) and last.end == len(before)):
+    if is_in_comment or tokens.open or (last.kind in (OPEN, DOC) and last.end == len(before)):
         return None
     reader = Reader(before, tokens.tokens, outline.parts[index - 1].facts.after if index > 0 else State())
     reader.run()

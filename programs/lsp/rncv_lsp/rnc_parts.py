@@ -13,10 +13,12 @@ from rncv_lsp.texts import Text
 
 # A line end in front of a definition.
 BOUNDARY = re.compile(r"(?:\r\n|\r|\n)(?=[ \t]*(\\?[^\W\d][-.\w]*)[ \t]*[|&]?=)")
+# An escape of a quote: with one a file is not cut, since only its tokens show where a literal ends.
+QUOTE = re.compile(r"\\x+\{0*2[27]\}")
 # The keywords and signs behind which nothing more must come.
 LAST_WORDS = ("empty", "text", "notAllowed", "string", "token")
 LAST_SIGNS = ("}", ")", "]", "*", "+", "?")
-Scan = NamedTuple("Scan", [("comments", List[Tuple[int, int]]), ("braces", List[Tuple[int, str]]), ("open", int), ("is_settled", bool)])
+Scan = NamedTuple("Scan", [("comments", List[Tuple[int, int]]), ("braces", List[Tuple[int, str]]), ("open", List[int]), ("is_settled", bool)])
 
 
 class Part:
@@ -79,12 +81,12 @@ def is_settled(found: Lexed) -> bool:
 def boundaries(lines: Text) -> List[int]:
     """Where parts may begin and end: at the beginning, in front of the first definition of each piece, and at the end."""
     found, begin = [0], 0
-    for piece in lines.pieces:
+    for piece in lines.pieces if not QUOTE.search(lines.text) else ():
         places = (match.end() for match in BOUNDARY.finditer(piece.text) if match[1] == "start" or match[1] not in KEYWORDS)
         place = next(places, 0)
         found += [begin + place] if place else []
         begin += piece.length
-    return [*found, begin] if begin > found[-1] or len(found) == 1 else found
+    return [*found, lines.length] if lines.length > found[-1] or len(found) == 1 else found
 
 
 class Outline:
@@ -125,9 +127,9 @@ class Outline:
 
     def _closing(self, begin: int, scan: Scan) -> int:
         """Where the literal ends that has no end in a part; -1 if there is none."""
-        at = begin + scan.open
-        close = self.lines.text.find(self.lines.text[at:at + 3], at + 3) if scan.open >= 0 else -1
-        return close + 3 if close >= 0 else -1
+        text = self.lines.text
+        ends = (text.find(text[begin + at:begin + at + 3], begin + at + 3) for at in scan.open)
+        return next((end + 3 for end in ends if end >= 0), -1)
 
     def _scan(self, words: str) -> Scan:
         """The scan of a part."""
@@ -178,18 +180,20 @@ class Outline:
     @functools.cached_property
     def components(self) -> List[Component]:
         """The parts of the outline, in the order of their beginnings."""
-        found: List[Component] = []
-        open_ones: List[int] = []
+        found: List[Tuple[Opened, int, int]] = []
+        ends: List[int] = []
+        path: List[int] = []
         for begin, part in self.placed():
             for event in part.facts.events:
-                if isinstance(event, Opened):
-                    opened = event._replace(start=event.start + begin, name_start=event.name_start + begin, name_end=event.name_end + begin)
-                    open_ones.append(len(found))
-                    found.append(Component(opened, self.lines.length, open_ones[-2] if len(open_ones) > 1 else -1, len(open_ones)))
-                elif open_ones:
-                    index = open_ones.pop()
-                    found[index] = found[index]._replace(end=max(event + begin, found[index].opened.name_end))
-        return found
+                if not isinstance(event, int):
+                    kind, text, start, name_start, name_end, detail = event
+                    opened = Opened(kind, text, start + begin, name_start + begin, name_end + begin, detail)
+                    found.append((opened, path[-1] if path else -1, len(path) + 1))
+                    path.append(len(ends))
+                    ends.append(self.lines.length)
+                elif path:
+                    ends[path.pop()] = event + begin
+        return [Component(opened, max(end, opened.name_end), around, depth) for (opened, around, depth), end in zip(found, ends)]
 
     @functools.cached_property
     def enclosing(self) -> Dict[int, int]:

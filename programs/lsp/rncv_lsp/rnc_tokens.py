@@ -7,7 +7,6 @@ from typing import List, NamedTuple, Optional, Tuple
 
 from rncv_lsp.outside import ESCAPE, KEYWORDS, NCNAME, character, meaning
 
-QUOTES = ('"""', "'''")
 WORD, QUOTED, CNAME, NSNAME, LITERAL, OPEN, SIGN, DOC = "word", "quoted", "cname", "nsname", "literal", "open", "sign", "doc"
 LOOSE = re.compile(rf"""(?P<sign>>>|\|=|&=|[]=,|&?*+{{}}()[~-])
                       | (?P<nsname>{NCNAME}:\*) | (?P<cname>{NCNAME}:{NCNAME}) | (?P<word>{NCNAME}) | (?P<quoted>\\{NCNAME})
@@ -35,11 +34,11 @@ class Token(NamedTuple):
 
 
 class Lexed(NamedTuple):
-    """The tokens of a text, and the ends of its runs of comment lines. `open` is where three quotes without an end are, or -1."""
+    """The tokens of a text, and the ends of its runs of comment lines. `open` is where three quotes without an end are."""
 
     tokens: List[Token]
     comments: List[Tuple[int, int]]
-    open: int
+    open: List[int]
 
 
 NOTHING = Token(SIGN, "", 0, 0)
@@ -70,16 +69,13 @@ def lexed(text: str) -> Lexed:
             comments.append((start, end))
         else:
             found.append(Token(kind, match[0] if kind != QUOTED else match[0][1:], start, end))
-    return Lexed(found, comments, open_quotes(found) if '"""' in shown or "'''" in shown else -1)
+    return Lexed(found, comments, open_quotes(found) if '"""' in shown or "'''" in shown else [])
 
 
-def open_quotes(tokens: List[Token]) -> int:
-    """Where three quotes begin that have no end in the text: there an empty literal is followed by a quote. -1: nowhere."""
-    for token, following in zip(tokens, tokens[1:]):
-        is_empty = token.kind == LITERAL and token.text in ('""', "''")
-        if is_empty and following.start == token.end and following.text[:1] == token.text[0]:
-            return token.start
-    return -1
+def open_quotes(tokens: List[Token]) -> List[int]:
+    """Where three quotes begin that have no end in the text: there an empty literal is followed by a quote."""
+    pairs = ((token, following) for token, following in zip(tokens, tokens[1:]) if token.kind == LITERAL and token.text in ('""', "''"))
+    return [token.start for token, following in pairs if following.start == token.end and following.text[:1] == token.text[0]]
 
 
 def literal_words(token: Token) -> str:

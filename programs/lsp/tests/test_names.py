@@ -1,8 +1,24 @@
 """Tests of requests about the names in schemas: definitions, references, renaming, outlines, hovers and completions."""
+import random
 import re
+import sys
+import time
 import unittest
+import unittest.mock
 
-from client import WithServer, span
+from client import TOP, WithServer, span
+
+sys.path.insert(0, str(TOP / "programs/lsp"))
+from rncv_lsp.rnc_parts import Outline  # noqa: E402
+from rncv_lsp.rnc_types import DIGITS, LENGTHS, PARAMETERS, BOUNDS  # noqa: E402
+from rncv_lsp.texts import Piece, Text  # noqa: E402
+
+# Words of which texts are made at random.
+WORDS = ("a", "foo ", " ", "\n", "\r\n", "\r", "=", "|=", "{", "}", "[", "]", "(", ")", '"', "'", '"""', "'''", "#", "##", "element ", "attribute ",
+         "start", "grammar", "div", "include", "external", "parent ", "inherit", "namespace ", "datatypes ", "default ", "xsd:int ", "a:b", "a:*", ">>",
+         "~", "\\", "\\x{61}", "\\x{22}", "\n# c\n", "\n## d\n", "\nfoo = text\n", "\n  bar |= baz\n", ",", "-", '"x"', "\u00e9", "\U0001F600")
+# How long 20 edits of a schema of 200 KB may take, each with a question: some 0.3 seconds when nothing else runs, some 3 if all of it were read each time.
+SECONDS = 2.0
 
 MARK = re.compile(r"@(\w*)@")
 
@@ -145,7 +161,8 @@ class Definitions(Asking):
         self.assertEqual((self.references("1"), self.references("2"), self.references("p"), self.references("o")), ("1", "2", "3 p q", "n o"))
 
     def test_externals(self):
-        self.put("main.rnc", 'start = external @e@"pattern.rnc" | external "grammar.rnc"\n@1@a = text\nb = grammar { start = external "pattern.rnc"  @2@a = text }')
+        self.put("main.rnc", 'start = external @e@"pattern.rnc" | external "grammar.rnc"\n@1@a = text\n'
+                 'b = grammar { start = external "pattern.rnc"  @2@a = text }')
         self.put("pattern.rnc", "element p { @3@a }")
         self.put("grammar.rnc", "start = @4@a | parent @5@a\n@6@a = text")
         self.assertEqual([self.definition(mark) for mark in "123456"], ["1", "2", "1 2", "6", "1", "6"])
@@ -196,7 +213,8 @@ div {
         self.assertEqual((self.definition("3"), self.references("1")), ("2 4", "1 2 3 4"))
 
     def test_escapes_and_positions(self):
-        self.put("s.rnc", "# \U0001F600\r\nstart = '\U0001F600' | @1@\\x{66}oo | @2@foo\r@3@fo\\xxx{00006f} = text\n@4@\\start |= @5@\\start\r\n@6@\u00e9 = @7@\u00e9")
+        self.put("s.rnc", "# \U0001F600\r\nstart = '\U0001F600' | @1@\\x{66}oo | @2@foo\r"
+                 "@3@fo\\xxx{00006f} = text\n@4@\\start |= @5@\\start\r\n@6@\u00e9 = @7@\u00e9")
         self.assertEqual([self.references(mark) for mark in "147"], ["1 2 3", "4 5", "6 7"])
         self.assertEqual(self.ask("references", "1", context={})[0]["range"]["end"], {"line": 1, "character": 23})
 
@@ -244,7 +262,8 @@ class Renaming(Asking):
     def test_in_all_files(self):
         self.put("main.rnc", 'include "part.rnc" { @1@a = @2@b }\r\nstart = \\a | grammar { start = a | parent a  a = text }\r\na |= \\x{61}')
         self.put("part.rnc", "a = b, a?\nb = notAllowed", False)
-        wanted = {"main.rnc": 'include "part.rnc" { c = b }\r\nstart = c | grammar { start = a | parent c  a = text }\r\nc |= c', "part.rnc": "c = b, c?\nb = notAllowed"}
+        wanted = {"main.rnc": 'include "part.rnc" { c = b }\r\nstart = c | grammar { start = a | parent c  a = text }\r\nc |= c',
+                  "part.rnc": "c = b, c?\nb = notAllowed"}
         self.assertEqual(self.renamed("1", "c"), wanted)
         self.assertEqual(self.renamed("1", "\\c"), wanted)
         self.assertEqual(self.renamed("2", "\\list"), {"main.rnc": self.texts[self.uri("main.rnc")].replace("= b ", "= \\list "), "part.rnc":
@@ -263,8 +282,7 @@ a = text""")
                 ("1", "a b", "'a b' is no identifier"), ("1", "a:b", "'a:b' is no identifier"), ("1", "\\x{61}", "'\\\\x{61}' is no identifier"),
                 ("1", "1", "'1' is no identifier"), ("1", "a\n", "'a\\n' is no identifier"), ("p", "q", "the prefix q is there already"),
                 ("p", "xml", "the prefix xml has a meaning of its own"), ("x", "y", "the prefix xsd is not declared in this file"),
-                ("s", "c", "only a definition, a reference or a prefix can be renamed"), ("l", "c", "only a definition, a reference or a prefix can be renamed"),
-                ("e", "c", "only a definition, a reference or a prefix can be renamed")):
+                *((mark, "c", "only a definition, a reference or a prefix can be renamed") for mark in "sle")):
             self.assertEqual(self.renamed(mark, new), message)
         self.assertIn("grammar { c = text }", self.renamed("2", "c")["s.rnc"])
         self.assertEqual(self.ask("prepareRename", "s")["code"], -32803)
@@ -355,7 +373,8 @@ o = (e | at)*
 
     def test_broken_and_deep(self):
         for text in ("grammar {" * 3_000, "}" * 3_000, "[" * 3_000 + "]" * 4_000 + "{" * 3_000, "(" * 50_000 + "}" * 50_000, "a = grammar { " * 1_000,
-                     "div { include 'x' { " * 1_000 + "a = b", "element " * 1_000, "a = x { " * 1_000 + "b = 'c", "include", "a =", "=", "'", '\"\"\"', "\\", "\x00",
+                     "div { include 'x' { " * 1_000 + "a = b", "element " * 1_000, "a = x { " * 1_000 + "b = 'c", "include", "a =", "=", "'", '"""', "\\",
+                     "\x00",
                      "namespace", "default namespace", "datatypes x", "parent", "external", ">>", "a [", "", "\ufeff", "<a/>", "a = b >> ", "inherit ="):
             uri = self.put("s.rnc", f"@0@{text}")
             self.assertIsInstance(self.about("documentSymbol", uri), list, text[:20])
@@ -385,7 +404,8 @@ b = text
 a |= empty >> a [ '```' ]
 long =
 """ + "  empty |\n" * 20 + "  empty")
-        self.assertEqual(self.hover("1"), "```rnc\na = element a { text }\n```\n\nWhat an \\*a\\* is,\\\nin two lines\\.\n\n````rnc\na |= empty >> a [ '```' ]\n````")
+        self.assertEqual(self.hover("1"), "```rnc\na = element a { text }\n```\n\nWhat an \\*a\\* is,\\\nin two lines\\.\n\n"
+                         "````rnc\na |= empty >> a [ '```' ]\n````")
         self.assertEqual(self.hover("4"), self.hover("1"))
         self.assertEqual(self.hover("2"), "```rnc\nlong =\n" + "  empty |\n" * 11 + "..\n```")
         self.assertIsNone(self.hover("3"))
@@ -459,6 +479,47 @@ class Completions(Asking):
     def test_nothing(self):
         for text in ("# @0@", "a = 'x@0@", "## x@0@", 'a = """\n@0@\n"""', "[ @0@ ] a = text", "a [ b [ @0@"):
             self.assertFalse(self.completed(text)[0], text)
+
+
+def names_in(outline):
+    """All names of an outline."""
+    return sorted(outline.with_role(*{role for part in outline.parts for role in part.by_role}))
+
+
+class Parts(unittest.TestCase):
+    """The parts in which a file is read."""
+
+    def test_edits_at_random(self):
+        chosen = random.Random(3)
+        for length in (8, 30, 100, 4_096) * 20:
+            with unittest.mock.patch("rncv_lsp.texts.PIECE_LENGTH", length):
+                text = Text("".join(chosen.choice(WORDS) for _ in range(chosen.randrange(150))))
+                outline = Outline(text)
+                for _ in range(5):
+                    start, new = chosen.randrange(text.length + 1), "".join(chosen.choice(WORDS) for _ in range(chosen.randrange(3)))
+                    text = text._replaced(start, min(start + chosen.randrange(4), text.length), new)
+                    outline, fresh, whole = Outline(text, outline), Outline(text), Outline(Text(pieces=[Piece(text.text)]))
+                    self.assertEqual((names_in(outline), outline.components), (names_in(fresh), fresh.components))
+                    self.assertEqual(names_in(outline), names_in(whole), text.text)
+                    self.assertTrue(all(0 <= each.opened.start <= each.opened.name_start <= each.opened.name_end <= each.end <= text.length
+                                        for each in outline.components), text.text)
+
+    def test_speed(self):
+        text = Text("start = p0\n" + "".join(f"## {n}\np{n} =\n  element e{n} {{ p{n + 1}?, (p{n // 2} | xsd:int)* }}\n" for n in range(3_500)))
+        outline = Outline(text)
+        begin = time.monotonic()
+        for number in range(20):
+            text = text._replaced(9_000 * number, 9_000 * number, "x")
+            outline = Outline(text, outline)
+            self.assertEqual(len(list(outline.with_text("p3"))), 4)
+        self.assertLess(time.monotonic() - begin, SECONDS)
+        self.assertGreater(len(outline.parts), 20)
+
+    def test_datatypes(self):
+        source = (TOP / "programs/xml/src/schema_types.c").read_text(encoding="utf-8")
+        kinds = {"LENGTH": LENGTHS, "BARE": (), "CONTEXT": (), "INTEGER": (*BOUNDS, *DIGITS), "DECIMAL": (*BOUNDS, *DIGITS), "ORDERED": BOUNDS}
+        found = {name: ("pattern", *kinds[kind]) for name, kind in re.findall(r'\{"(\w+)", TYPE_(\w+)\}', source)}
+        self.assertEqual(PARAMETERS, found)
 
 
 if __name__ == "__main__":
