@@ -49,12 +49,13 @@ class Frame(NamedTuple):
 
 
 class State(NamedTuple):
-    """Where the reader is between two parts of a text, and how many grammars it has seen. `lead` says how long before the end of the part the documentation
-    and annotations of the next component begin; 0 if there are none."""
+    """Where the reader is between two parts of a text, how many grammars it has seen, and whether a pattern must come next. `lead` says how long before the
+    end of the part the documentation and annotations of the next component begin; 0 if there are none."""
 
     frames: Tuple[Frame, ...] = (Frame(CONTENT),)
     is_in_definition: bool = False
     scopes: int = 1
+    expects: bool = False
     lead: int = 0
 
 
@@ -76,7 +77,7 @@ class Reader:
         self.stack = list(state.frames)
         self.is_in_definition, self.scopes = state.is_in_definition, state.scopes
         # Whether a pattern or a name must come next; where the documentation and annotations of the next component begin; where the last one ends.
-        self.expects, self.lead, self.last_end = False, -state.lead if state.lead else None, 0
+        self.expects, self.lead, self.last_end = state.expects, -state.lead if state.lead else None, 0
         self.facts = Facts([], [], [], False, state)
         self.is_grammar = False
 
@@ -100,7 +101,8 @@ class Reader:
 
     def _state(self) -> State:
         """Where the reader is."""
-        return State(tuple(self.stack), self.is_in_definition, self.scopes, 0 if self.lead is None else len(self.text) - self.lead)
+        lead = 0 if self.lead is None else len(self.text) - self.lead
+        return State(tuple(self.stack), self.is_in_definition, self.scopes, self.expects, lead)
 
     def _lead(self, token: Token) -> None:
         """Takes the first token of the documentation or of an annotation. Between components it belongs to the next one."""

@@ -15,9 +15,9 @@ from rncv_lsp.texts import Text
 BOUNDARY = re.compile(r"(?:\r\n|\r|\n)(?=[ \t]*(\\?[^\W\d][-.\w]*)[ \t]*[|&]?=)")
 # An escape of a quote: with one a file is not cut, since only its tokens show where a literal ends.
 QUOTE = re.compile(r"\\x+\{0*2[27]\}")
-# The keywords and signs behind which nothing more must come.
+# The keywords behind which nothing more must come, and the signs that say what the token behind them is.
 LAST_WORDS = ("empty", "text", "notAllowed", "string", "token")
-LAST_SIGNS = ("}", ")", "]", "*", "+", "?")
+OPEN_SIGNS = ("=", "|=", "&=", "~", ">>")
 Scan = NamedTuple("Scan", [("comments", List[Tuple[int, int]]), ("braces", List[Tuple[int, str]]), ("open", List[int]), ("is_settled", bool)])
 
 
@@ -75,7 +75,7 @@ def is_settled(found: Lexed) -> bool:
     kind, text = found.tokens[-1][:2]
     if kind == WORD:
         return text not in KEYWORDS or text in LAST_WORDS
-    return text in LAST_SIGNS if kind == SIGN else kind in (QUOTED, CNAME, LITERAL, OPEN, DOC)
+    return text not in OPEN_SIGNS if kind == SIGN else kind in (QUOTED, CNAME, LITERAL, OPEN, DOC)
 
 
 def boundaries(lines: Text) -> List[int]:
