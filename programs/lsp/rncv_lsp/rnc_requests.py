@@ -8,12 +8,14 @@ from rncv_lsp.documents import Document, Documents
 from rncv_lsp.rnc_completion import completion
 from rncv_lsp.rnc_grammars import Grammars, Outlines
 from rncv_lsp.rnc_hover import hover
+from rncv_lsp.rnc_indent import indented
 from rncv_lsp.rnc_names import Asked, definition, highlights, prepared, references, rename
 from rncv_lsp.rnc_places import Lines
 from rncv_lsp.rnc_symbols import MOST_SYMBOLS, flat, foldings, tree
 from rncv_lsp.rpc import Handler, member
 from rncv_lsp.schema_files import Disk, opened
 
+MOST_BLANKS = 16
 CAPABILITIES = {
     "definitionProvider": True,
     "referencesProvider": True,
@@ -22,6 +24,8 @@ CAPABILITIES = {
     "documentSymbolProvider": True,
     "workspaceSymbolProvider": True,
     "foldingRangeProvider": True,
+    "documentFormattingProvider": True,
+    "documentRangeFormattingProvider": True,
     "hoverProvider": True,
     "completionProvider": {"triggerCharacters": [":", "\\"]},
 }
@@ -51,6 +55,8 @@ class SchemaRequests:
             "textDocument/rename": self._rename,
             "textDocument/documentSymbol": self._symbols,
             "textDocument/foldingRange": self._foldings,
+            "textDocument/formatting": self._format,
+            "textDocument/rangeFormatting": lambda params: self._format(params, member(params, "range", dict)),
             "textDocument/hover": lambda params: self._answer(params, lambda asked: hover(asked, self._is_markdown)),
             "textDocument/completion": lambda params: self._answer(params, lambda asked: completion(asked, self._datatypes() == "profile")),
             "workspace/symbol": self._workspace_symbols,
@@ -115,6 +121,18 @@ class SchemaRequests:
             return None
         found = foldings(self._outlines.of(opened(document)), Lines(document.lines, self._documents.encoding))
         return found[:self._most_foldings]
+
+    def _format(self, params: Any, place: Any = None) -> Optional[List[Dict[str, Any]]]:
+        """The edits that indent a schema, or the lines of a range."""
+        document, options = self._schema(params), member(params, "options", dict)
+        size = max(1, min(member(options, "tabSize", int), MOST_BLANKS))
+        first, last = (member(member(place, end, dict), "line", int) for end in ("start", "end")) if place is not None else (0, None)
+        if document is None:
+            return None
+        lines = Lines(document.lines, self._documents.encoding)
+        found = indented(self._outlines.of(opened(document)), "\t" if options.get("insertSpaces") is False else " " * size)
+        reported = [{"range": lines.range(line.start, line.first), "newText": line.blanks} for line in found]
+        return [each for each in reported if first <= each["range"]["start"]["line"] and (last is None or each["range"]["start"]["line"] <= last)]
 
     def _workspace_symbols(self, params: Any) -> List[Dict[str, Any]]:
         """The components of the open schemas whose names fit a query."""

@@ -9,7 +9,9 @@ import unittest.mock
 from client import TOP, WithServer, span
 
 sys.path.insert(0, str(TOP / "programs/lsp"))
+from rncv_lsp.rnc_indent import indented  # noqa: E402
 from rncv_lsp.rnc_parts import Outline  # noqa: E402
+from rncv_lsp.rnc_tokens import lexed  # noqa: E402
 from rncv_lsp.rnc_types import DIGITS, LENGTHS, PARAMETERS, BOUNDS  # noqa: E402
 from rncv_lsp.texts import Piece, Text  # noqa: E402
 
@@ -479,6 +481,101 @@ class Completions(Asking):
     def test_nothing(self):
         for text in ("# @0@", "a = 'x@0@", "## x@0@", 'a = """\n@0@\n"""', "[ @0@ ] a = text", "a [ b [ @0@"):
             self.assertFalse(self.completed(text)[0], text)
+
+class Indenting(Asking):
+    """The blanks at the beginning of lines."""
+
+    TEXT = """ namespace a =
+"u"
+  include "x.rnc" {
+start = b
+    }
+start =
+element a { # one
+\t(b
+| element c {
+\"\"\"
+  as it is
+\"\"\"
+}
+&
+## d
+   attribute d { text })
+      # two
+  } |
+[ a:b =
+"c" ]
+notAllowed
+
+div {
+# three
+x = (y |
+z) }
+"""
+    WANTED = """namespace a =
+  "u"
+include "x.rnc" {
+  start = b
+}
+start =
+  element a { # one
+    (b
+     | element c {
+         \"\"\"
+  as it is
+\"\"\"
+       }
+     &
+       ## d
+       attribute d { text })
+    # two
+  } |
+  [ a:b =
+      "c" ]
+  notAllowed
+
+div {
+  # three
+  x = (y |
+    z) }
+"""
+
+    def indented(self, text, method="formatting", **others):
+        """The text with other blanks."""
+        uri = self.put("s.rnc", text)
+        result = self.client.request(f"textDocument/{method}", {"textDocument": {"uri": uri}, "options": {"tabSize": 2, "insertSpaces": True}, **others})
+        self.client.close(uri)
+        return applied(text, result["result"])
+
+    def test_whole_files(self):
+        for ends in ("\n", "\r\n"):
+            wanted = self.WANTED.replace("\n", ends)
+            self.assertEqual(self.indented(self.TEXT.replace("\n", ends)), wanted)
+            self.assertEqual(self.indented(wanted), wanted)
+        for path in TOP.glob("examples/*/*.rnc"):
+            text = path.read_text(encoding="utf-8")
+            self.assertEqual(self.indented(text), text)
+
+    def test_ranges_and_tabs(self):
+        text = "a =\nb\nc =\nd\n"
+        place = {"start": {"line": 1, "character": 0}, "end": {"line": 2, "character": 0}}
+        self.assertEqual(self.indented(text, "rangeFormatting", range=place), "a =\n  b\nc =\nd\n")
+        self.assertEqual(self.indented(text, options={"tabSize": 8, "insertSpaces": False}), "a =\n\tb\nc =\n\td\n")
+
+    def test_what_stays(self):
+        for text in ("a = {\n b", "a = (\n b }", " ]", "a = 'x\n b", ""):
+            self.assertEqual(self.indented(text), text)
+
+    def test_tokens_stay(self):
+        chosen = random.Random(5)
+        for _ in range(300):
+            text = "".join(chosen.choice(WORDS) for _ in range(chosen.randrange(40)))
+            text += "".join(")" if sign == "(" else "}" if sign == "{" else "]" for sign in reversed(re.findall(r"[\[({]", text)))
+            new = text
+            for line in reversed(indented(Outline(Text(text)), "   ")):
+                self.assertEqual(text[line.start:line.first].strip(" \t"), "")
+                new = new[:line.start] + line.blanks + new[line.first:]
+            self.assertEqual([token[:2] for token in lexed(new).tokens], [token[:2] for token in lexed(text).tokens], text)
 
 
 def names_in(outline):

@@ -1,0 +1,133 @@
+"""The indentation of a schema. Only blanks at the beginning of lines change, none in a literal; a schema whose brackets do not match stays as it is."""
+from __future__ import annotations
+
+import re
+from typing import Dict, Iterator, List, NamedTuple
+
+from rncv_lsp.rnc_outline import DEFINE, START
+from rncv_lsp.rnc_parts import Outline
+from rncv_lsp.rnc_tokens import CNAME, LITERAL, OPEN, SIGN, Token, lexed
+from rncv_lsp.texts import LINE_END
+
+BLANKS = re.compile("[ \t]*")
+PARTNERS = {"}": "{", ")": "(", "]": "["}
+# Declarations and mentions, by a letter for each token.
+LETTERS = {"include": "C", "inherit": "I", "namespace": "S", "default": "D", "datatypes": "T", "=": "=", "~": "~"}
+LONG = re.compile("CL(?:~L)*(?:I=[NCISDT])?|D?S[NCISDT]?=(?:L(?:~L)*|I)|T?[NCISDT]=L(?:~L)*")
+OPERATORS = ("|", "&", ",")
+HANG = "  "
+
+
+class Line(NamedTuple):
+    """A line that may begin with blanks: where it and its first token begin, and the blanks that it should have."""
+
+    start: int
+    first: int
+    blanks: str
+
+
+class Bracket(NamedTuple):
+    """An open bracket: the blanks of the line that closes it, and of those in it."""
+
+    sign: str
+    outside: str
+    inside: str
+
+
+def letter(token: Token) -> str:
+    """The letter of a token."""
+    return "L" if token.kind == LITERAL else LETTERS.get(token.text) or ("N" if token.is_name or token.kind == CNAME else ".")
+
+
+def is_operator(token: Token) -> bool:
+    """Whether a token joins patterns."""
+    return token.kind == SIGN and token.text in OPERATORS
+
+
+def long_ones(outline: Outline, tokens: List[Token]) -> Dict[int, int]:
+    """Where definitions, declarations and mentions end, by where they begin: their further lines are deeper."""
+    found = {each.opened.name_start: each.end for each in outline.components if each.opened.kind in (DEFINE, START)}
+    for match in LONG.finditer("".join(map(letter, tokens))):
+        found.setdefault(tokens[match.start()].start, tokens[match.end() - 1].end)
+    return found
+
+
+class Indenter:
+    """Goes through a schema, line by line. Each level has one more unit of blanks."""
+
+    def __init__(self, outline: Outline, unit: str) -> None:
+        self.text, self.unit = outline.lines.text, unit
+        self.tokens, self.at = lexed(self.text).tokens, 0
+        self.long_ones = long_ones(outline, self.tokens)
+        self.brackets: List[Bracket] = []
+        # Where what is long ends, and whether the last line that began with an operator has nothing more, outside the brackets and in each of them.
+        self.ends, self.hangs = [0], [False]
+        self.is_sure = not any(token.kind == OPEN for token in self.tokens)
+
+    def lines(self) -> List[Line]:
+        """The lines that may begin with blanks; none if the brackets do not match."""
+        starts = [0, *(found.end() for found in LINE_END.finditer(self.text))]
+        found = list(self._lines(starts))
+        return found if self.is_sure and not self.brackets else []
+
+    def _lines(self, starts: List[int]) -> Iterator[Line]:
+        """The lines, in their order."""
+        for start, behind in zip(starts, [*starts[1:], len(self.text) + 1]):
+            first = BLANKS.match(self.text, start).end()  # type: ignore[union-attr]
+            is_inside = self.at > 0 and self.tokens[self.at - 1].end > start
+            line = Line(start, first, self._blanks(first, behind))
+            if self.text[first:first + 1].strip() and not is_inside:
+                yield line
+            self._take(line, behind)
+
+    def _token(self, index: int) -> Token:
+        """The token with this index; behind the last one, a token at the end of the text."""
+        return self.tokens[index] if index < len(self.tokens) else Token(SIGN, "", len(self.text), len(self.text))
+
+    def _blanks(self, first: int, behind: int) -> str:
+        """The blanks of the line that begins here, and ends before the other place. It may close brackets first."""
+        closed = 0
+        while self._token(self.at).start == first and self._closes(self._token(self.at + closed), behind):
+            closed += 1
+        if 0 < closed <= len(self.brackets):
+            return self.brackets[-closed].outside
+        token, inside = self._token(self.at), self.brackets[-1].inside if self.brackets else ""
+        hanging = HANG if self.hangs[-1] and not is_operator(token) and token.start not in self.long_ones else ""
+        return inside + (self.unit if token.start < self.ends[-1] else "") + hanging
+
+    def _closes(self, token: Token, behind: int) -> bool:
+        """Whether a token closes a bracket, and is on the line that ends before this place."""
+        return token.kind == SIGN and token.text in PARTNERS and token.start < behind
+
+    def _take(self, line: Line, behind: int) -> None:
+        """Takes the tokens of a line. What an operator at its beginning joins is behind that."""
+        first = self._token(self.at)
+        item = self._token(self.at + is_operator(first))
+        self.hangs[-1] = item.start >= behind if is_operator(first) and first.start < behind else self.hangs[-1]
+        outside = line.blanks + " " * (item.start - line.first if item.start < behind and first.start == line.first else 0)
+        while self.at < len(self.tokens) and self.tokens[self.at].start < behind:
+            token = self.tokens[self.at]
+            if token.start in self.long_ones:
+                self.ends[-1], self.hangs[-1] = self.long_ones[token.start], False
+            if token.kind == SIGN and token.text in ("{", "(", "["):
+                is_aligned = token.text == "(" and token is item
+                self.brackets.append(Bracket(token.text, outside, outside + (" " if is_aligned else self.unit)))
+                self.ends.append(0)
+                self.hangs.append(False)
+            elif token.kind == SIGN and token.text in PARTNERS:
+                self._close(PARTNERS[token.text])
+            self.at += 1
+
+    def _close(self, partner: str) -> None:
+        """Closes the last bracket."""
+        self.is_sure = self.is_sure and bool(self.brackets) and self.brackets[-1].sign == partner
+        if self.brackets:
+            self.brackets.pop()
+            self.ends.pop()
+            self.hangs.pop()
+
+
+def indented(outline: Outline, unit: str) -> List[Line]:
+    """The blanks at the beginning of lines that change: where they are, and what is there instead."""
+    found = Indenter(outline, unit).lines()
+    return [line for line in found if outline.lines.text[line.start:line.first] != line.blanks]
