@@ -77,11 +77,13 @@ def items(asked: Asked, spot: Spot, is_profile: bool) -> Iterable[Item]:
     if last == "default":
         return [("namespace", KEYWORD)]
     if frame.kind == PARAMS:
+        if last == "=":
+            return []
         prefix, _, local = (frame.words or "").rpartition(":")
         library = library_of(asked.grammars, asked.key, prefix) if prefix else ""
         return [(name, PARAMETER) for name in parameters_of(library, local, is_profile)]
     if frame.kind == CLASS:
-        return [(f"{prefix}:", PREFIX) for prefix in outline.spaces if prefix] if spot.reader.expects else []
+        return [(f"{prefix}:", PREFIX) for prefix in outline.spaces if prefix] if spot.reader.expects and ":" not in spot.typed else []
     node = asked.key, frame.scope
     if last == "parent":
         return names(asked, asked.grammars.parents(node))

@@ -4,6 +4,7 @@ A grammar of one file is a node: the file's key, and the number of the grammar i
 of another file to it. A file that is a pattern has the names of the grammar that mentions it."""
 from __future__ import annotations
 
+import itertools
 from typing import Callable, Dict, Iterable, Iterator, List, NamedTuple, Optional, Set, Tuple
 
 from rncv_lsp.documents import Document
@@ -13,7 +14,7 @@ from rncv_lsp.schema_files import Disk, FileView, SchemaFile, opened, ways
 from rncv_lsp.schema_words import FILE_BYTES
 from rncv_lsp.texts import Text
 
-MOST_FILES = 256
+MOST_FILES, MOST_MENTIONS = 256, 1_024
 Node = Tuple[str, int]
 
 
@@ -79,7 +80,7 @@ class Grammars:
 
     def _mentioned(self, file: SchemaFile) -> Iterator[SchemaFile]:
         """The files that a file mentions."""
-        for name in self.outlines[file.key].with_role(INCLUDE, EXTERNAL):
+        for name in itertools.islice(self.outlines[file.key].with_role(INCLUDE, EXTERNAL), MOST_MENTIONS):
             found = self._find(file, name.text)
             if found is not None:
                 self._mentions.append((Place(file.key, name), found.key))

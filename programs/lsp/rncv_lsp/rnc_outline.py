@@ -248,9 +248,11 @@ class Reader:
 
     def _params(self, token: Token) -> None:
         """Takes a token in the braces of a datatype."""
-        is_value = self._next(2).kind in (LITERAL, OPEN) and self._next().text == "="
-        if token.is_name and is_value:
-            self.at += 3
+        value, is_last = self._next(2), self._next(3).kind == SIGN and self._next(3).text in ASSIGNMENTS
+        is_value = value.kind in (LITERAL, OPEN)
+        # A value that is not there yet is followed by the end, or by another parameter.
+        if token.is_name and self._next().text == "=" and (is_value or is_last or (value.kind == SIGN and value.text in ("}", ""))):
+            self.at += 3 if is_value else 2
         elif self._assigns(token):
             self._definition(token)
         elif token.kind == SIGN and token.text == "}":

@@ -210,6 +210,12 @@ div {
         for mark, wanted in (("1", "3"), ("2", "4"), ("6", "7"), ("9", "7"), ("C", "3"), ("D", "A"), ("F", "B"), ("H", "E")):
             self.assertEqual(self.definition(mark), wanted, mark)
 
+    def test_parameters_without_values(self):
+        self.put("s.rnc", "@1@start = xsd:token { pattern = } | @2@a\n@3@b = xsd:token { minLength = maxLength = '1' } | @4@a\n@5@a = xsd:token { minLength =\n"
+                          "@6@c = element x { @7@a }")
+        self.assertEqual([self.definition(mark) for mark in "247"], ["5", "5", "5"])
+        self.assertEqual(len(self.about("documentSymbol", self.marks["1"][0])), 4)
+
     def test_literals_comments_and_annotations(self):
         self.put("s.rnc", LITERALS)
         self.assertEqual((self.definition("3"), self.references("1")), ("2 4", "1 2 3 4"))
@@ -479,7 +485,8 @@ class Completions(Asking):
         self.assertEqual(self.completed('include "part.rnc" { @0@ }')[0], ["div", "start", "b", "c"])
 
     def test_nothing(self):
-        for text in ("# @0@", "a = 'x@0@", "## x@0@", 'a = """\n@0@\n"""', "[ @0@ ] a = text", "a [ b [ @0@"):
+        for text in ("# @0@", "a = 'x@0@", "## x@0@", 'a = """\n@0@\n"""', "[ @0@ ] a = text", "a [ b [ @0@", "a = xsd:token { pattern = @0@",
+                     "namespace p = 'u' a = element p:@0@", "a = element b @0@", "namespace @0@"):
             self.assertFalse(self.completed(text)[0], text)
 
 class Indenting(Asking):
