@@ -50,13 +50,14 @@ class Frame(NamedTuple):
 
 class State(NamedTuple):
     """Where the reader is between two parts of a text, how many grammars it has seen, and whether a pattern must come next. `lead` says how long before the
-    end of the part the documentation and annotations of the next component begin; 0 if there are none."""
+    end of the part the documentation and annotations of the next component begin, or 0 if there are none, and `last` where the last token before them ends."""
 
     frames: Tuple[Frame, ...] = (Frame(CONTENT),)
     is_in_definition: bool = False
     scopes: int = 1
     expects: bool = False
     lead: int = 0
+    last: int = 0
 
 
 class Facts(NamedTuple):
@@ -77,7 +78,7 @@ class Reader:
         self.stack = list(state.frames)
         self.is_in_definition, self.scopes = state.is_in_definition, state.scopes
         # Whether a pattern or a name must come next; where the documentation and annotations of the next component begin; where the last one ends.
-        self.expects, self.lead, self.last_end = state.expects, -state.lead if state.lead else None, 0
+        self.expects, self.lead, self.last_end = state.expects, -state.lead if state.lead else None, -state.last
         self.facts = Facts([], [], [], False, state)
         self.is_grammar = False
 
@@ -101,20 +102,15 @@ class Reader:
 
     def _state(self) -> State:
         """Where the reader is."""
-        lead = 0 if self.lead is None else len(self.text) - self.lead
-        return State(tuple(self.stack), self.is_in_definition, self.scopes, self.expects, lead)
+        length = len(self.text)
+        lead = 0 if self.lead is None else length - self.lead
+        return State(tuple(self.stack), self.is_in_definition, self.scopes, self.expects, lead, length - self.last_end)
 
     def _lead(self, token: Token) -> None:
         """Takes the first token of the documentation or of an annotation. Between components it belongs to the next one."""
         if self.lead is None and not self.expects and self.stack[-1].kind == CONTENT:
             self._end_definition()
             self.lead = token.start
-
-    def finish(self) -> State:
-        """Ends the definition behind the last token, before the next part of the text begins with a definition."""
-        if self.stack[-1].kind == CONTENT:
-            self._end_definition()
-        return self._state()
 
     def _next(self, count: int = 1) -> Token:
         """The token that many places further."""
@@ -452,8 +448,6 @@ KEYWORD_ACTIONS: Dict[str, Action] = {
     "namespace": Reader._declaration, "default": Reader._declaration, "datatypes": Reader._declaration}
 
 
-def read(text: str, found: Lexed, state: State, is_last: bool = True) -> Facts:
-    """What a part of a text says. Unless it is the last one, the next part begins with a definition."""
-    reader = Reader(text, found.tokens, state)
-    facts = reader.run()
-    return facts if is_last else facts._replace(after=reader.finish())
+def read(text: str, found: Lexed, state: State) -> Facts:
+    """What a part of a text says."""
+    return Reader(text, found.tokens, state).run()

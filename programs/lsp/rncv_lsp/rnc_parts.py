@@ -11,8 +11,8 @@ from rncv_lsp.rnc_outline import LIBRARY, SPACE, Facts, Name, Opened, State, rea
 from rncv_lsp.rnc_tokens import CNAME, DOC, LITERAL, OPEN, QUOTED, SIGN, WORD, Lexed, lexed
 from rncv_lsp.texts import Text
 
-# A line end in front of a definition.
-BOUNDARY = re.compile(r"(?:\r\n|\r|\n)(?=[ \t]*(\\?[^\W\d][-.\w]*)[ \t]*[|&]?=)")
+# A line end in front of a definition, an element or an attribute.
+BOUNDARY = re.compile(r"(?:\r\n|\r|\n)(?=[ \t]*(?:(?:element|attribute)[ \t]|(\\?[^\W\d][-.\w]*)[ \t]*[|&]?=))")
 # An escape of a quote: with one a file is not cut, since only its tokens show where a literal ends.
 QUOTE = re.compile(r"\\x+\{0*2[27]\}")
 # The keywords behind which nothing more must come, and the signs that say what the token behind them is.
@@ -49,7 +49,7 @@ class Known(NamedTuple):
     """What is known about the parts of a text: what their tokens are, and what they say behind a state."""
 
     scans: Dict[str, Scan]
-    parts: Dict[Tuple[str, State, bool], Part]
+    parts: Dict[Tuple[str, State], Part]
 
 
 class Component(NamedTuple):
@@ -69,20 +69,18 @@ def scan_of(found: Lexed) -> Scan:
 
 
 def is_settled(found: Lexed) -> bool:
-    """Whether a definition may begin behind the tokens."""
-    if not found.tokens:
-        return True
-    kind, text = found.tokens[-1][:2]
+    """Whether the tokens are read the same without those behind them, which begin with a definition or an element."""
+    kind, text = next((token[:2] for token in reversed(found.tokens) if token.kind != DOC), (DOC, ""))
     if kind == WORD:
         return text not in KEYWORDS or text in LAST_WORDS
     return text not in OPEN_SIGNS if kind == SIGN else kind in (QUOTED, CNAME, LITERAL, OPEN, DOC)
 
 
 def boundaries(lines: Text) -> List[int]:
-    """Where parts may begin and end: at the beginning, in front of the first definition of each piece, and at the end."""
+    """Where parts may begin and end: at the beginning, in front of the first definition or element of each piece, and at the end."""
     found, begin = [0], 0
     for piece in lines.pieces if not QUOTE.search(lines.text) else ():
-        places = (match.end() for match in BOUNDARY.finditer(piece.text) if match[1] == "start" or match[1] not in KEYWORDS)
+        places = (match.end() for match in BOUNDARY.finditer(piece.text) if match[1] in (None, "start") or match[1] not in KEYWORDS)
         place = next(places, 0)
         found += [begin + place] if place else []
         begin += piece.length
@@ -108,7 +106,7 @@ class Outline:
         while index < last:
             end = self._end_of_part(places, index)
             words = self.lines.text[places[index]:places[end]]
-            part = self._part(words, state, end == last)
+            part = self._part(words, state)
             self.starts.append(places[index])
             self.parts.append(part)
             index, state = end, part.facts.after
@@ -140,12 +138,12 @@ class Outline:
         self.known.scans[words] = scan
         return scan
 
-    def _part(self, words: str, state: State, is_last: bool) -> Part:
+    def _part(self, words: str, state: State) -> Part:
         """What a part says behind a state."""
-        key = words, state, is_last
+        key = words, state
         part = self.known.parts.get(key) or self._old.parts.get(key)
         if part is None:
-            part = Part(self._scan(words), read(words, self._fresh.get(words) or lexed(words), state, is_last), len(words))
+            part = Part(self._scan(words), read(words, self._fresh.get(words) or lexed(words), state), len(words))
         self.known.parts[key] = part
         return part
 

@@ -18,7 +18,7 @@ from rncv_lsp.texts import Piece, Text  # noqa: E402
 # Words of which texts are made at random.
 WORDS = ("a", "foo ", " ", "\n", "\r\n", "\r", "=", "|=", "{", "}", "[", "]", "(", ")", '"', "'", '"""', "'''", "#", "##", "element ", "attribute ",
          "start", "grammar", "div", "include", "external", "parent ", "inherit", "namespace ", "datatypes ", "default ", "xsd:int ", "a:b", "a:*", ">>",
-         "~", "\\", "\\x{61}", "\\x{22}", "\n# c\n", "\n## d\n", "\nfoo = text\n", "\n  bar |= baz\n", ",", "-", '"x"', "\u00e9", "\U0001F600")
+         "~", "\\", "\\x{61}", "\\x{22}", "\n# c\n", "\n## d\n", "\nfoo = text\n", "\n  bar |= baz\n", "\n element ", ",", "-", '"x"', "\u00e9", "\U0001F600")
 # How long 20 edits of a schema of 200 KB may take, each with a question: some 0.3 seconds when nothing else runs, some 3 if all of it were read each time.
 SECONDS = 2.0
 
@@ -604,7 +604,7 @@ class Parts(unittest.TestCase):
                     text = text._replaced(start, min(start + chosen.randrange(4), text.length), new)
                     outline, fresh, whole = Outline(text, outline), Outline(text), Outline(Text(pieces=[Piece(text.text)]))
                     self.assertEqual((names_in(outline), outline.components), (names_in(fresh), fresh.components))
-                    self.assertEqual(names_in(outline), names_in(whole), text.text)
+                    self.assertEqual((names_in(outline), outline.components), (names_in(whole), whole.components), text.text)
                     self.assertTrue(all(0 <= each.opened.start <= each.opened.name_start <= each.opened.name_end <= each.end <= text.length
                                         for each in outline.components), text.text)
 
