@@ -11,9 +11,10 @@ from client import TOP, WithServer, span
 sys.path.insert(0, str(TOP / "programs/lsp"))
 from rncv_lsp.rnc_indent import indented  # noqa: E402
 from rncv_lsp.rnc_parts import Outline  # noqa: E402
+from rncv_lsp.rnc_places import Lines  # noqa: E402
 from rncv_lsp.rnc_tokens import lexed  # noqa: E402
 from rncv_lsp.rnc_types import DIGITS, LENGTHS, PARAMETERS, BOUNDS  # noqa: E402
-from rncv_lsp.texts import Piece, Text  # noqa: E402
+from rncv_lsp.texts import CODECS, Piece, Text  # noqa: E402
 
 # Words of which texts are made at random.
 WORDS = ("a", "foo ", " ", "\n", "\r\n", "\r", "=", "|=", "{", "}", "[", "]", "(", ")", '"', "'", '"""', "'''", "#", "##", "element ", "attribute ",
@@ -225,6 +226,13 @@ div {
                  "@3@fo\\xxx{00006f} = text\n@4@\\start |= @5@\\start\r\n@6@\u00e9 = @7@\u00e9")
         self.assertEqual([self.references(mark) for mark in "147"], ["1 2 3", "4 5", "6 7"])
         self.assertEqual(self.ask("references", "1", context={})[0]["range"]["end"], {"line": 1, "character": 23})
+
+    def test_other_units(self):
+        client = self.started()
+        client.initialize(None, None, general={"positionEncodings": ["utf-8"]})
+        client.open(self.uri("s.rnc"), "\u00e9 = '\U0001F600' | \u00e9")
+        answer = client.request("textDocument/definition", {"textDocument": {"uri": self.uri("s.rnc")}, "position": {"line": 0, "character": 14}})
+        self.assertEqual([span(each) for each in answer["result"]], [(0, 0, 0, 2)])
 
     def test_edits(self):
         uri = self.put("s.rnc", "\n".join(["start = @1@a", *(f"b{n} = text # {'x' * 50}" for n in range(500)), "@2@a = text"]))
@@ -607,6 +615,15 @@ class Parts(unittest.TestCase):
                     self.assertEqual((names_in(outline), outline.components), (names_in(whole), whole.components), text.text)
                     self.assertTrue(all(0 <= each.opened.start <= each.opened.name_start <= each.opened.name_end <= each.end <= text.length
                                         for each in outline.components), text.text)
+
+    def test_positions(self):
+        chosen = random.Random(7)
+        for _ in range(200):
+            text = Text("".join(chosen.choice(WORDS) for _ in range(chosen.randrange(30))))
+            for encoding in CODECS:
+                lines = Lines(text, encoding)
+                places = [offset for offset in range(text.length + 1) if text.text[offset - 1:offset + 1] != "\r\n"]
+                self.assertEqual([lines.position(offset) for offset in places], [text.position(offset, encoding) for offset in places])
 
     def test_speed(self):
         text = Text("start = p0\n" + "".join(f"## {n}\np{n} =\n  element e{n} {{ p{n + 1}?, (p{n // 2} | xsd:int)* }}\n" for n in range(3_500)))
