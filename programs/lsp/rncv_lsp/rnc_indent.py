@@ -16,6 +16,8 @@ LETTERS = {"include": "C", "inherit": "I", "namespace": "S", "default": "D", "da
 LONG = re.compile("CL(?:~L)*(?:I=[NCISDT])?|D?S[NCISDT]?=(?:L(?:~L)*|I)|T?[NCISDT]=L(?:~L)*")
 OPERATORS = ("|", "&", ",")
 HANG = "  "
+# Deeper brackets are no schema (docs/use/LANGUAGE.md), and would need very long lines.
+MOST_DEPTH = 1_000
 
 
 class Line(NamedTuple):
@@ -65,13 +67,13 @@ class Indenter:
         self.is_sure = not any(token.kind == OPEN for token in self.tokens)
 
     def lines(self) -> List[Line]:
-        """The lines that may begin with blanks; none if the brackets do not match."""
+        """The lines that may begin with blanks; none if the brackets do not match, or are too many in one another."""
         starts = [0, *(found.end() for found in LINE_END.finditer(self.text))]
         found = list(self._lines(starts))
         return found if self.is_sure and not self.brackets else []
 
     def _lines(self, starts: List[int]) -> Iterator[Line]:
-        """The lines, in their order."""
+        """The lines, in their order, as long as the brackets match."""
         for start, behind in zip(starts, [*starts[1:], len(self.text) + 1]):
             first = BLANKS.match(self.text, start).end()  # type: ignore[union-attr]
             is_inside = self.at > 0 and self.tokens[self.at - 1].end > start
@@ -79,6 +81,8 @@ class Indenter:
             if self.text[first:first + 1].strip() and not is_inside:
                 yield line
             self._take(line, behind)
+            if not self.is_sure:
+                return
 
     def _token(self, index: int) -> Token:
         """The token with this index; behind the last one, a token at the end of the text."""
@@ -112,6 +116,7 @@ class Indenter:
             if token.kind == SIGN and token.text in ("{", "(", "["):
                 is_aligned = token.text == "(" and token is item
                 self.brackets.append(Bracket(token.text, outside, outside + (" " if is_aligned else self.unit)))
+                self.is_sure = self.is_sure and len(self.brackets) <= MOST_DEPTH
                 self.ends.append(0)
                 self.hangs.append(False)
             elif token.kind == SIGN and token.text in PARTNERS:

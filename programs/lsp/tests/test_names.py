@@ -578,7 +578,7 @@ div {
         self.assertEqual(self.indented(text, options={"tabSize": 8, "insertSpaces": False}), "a =\n\tb\nc =\n\td\n")
 
     def test_what_stays(self):
-        for text in ("a = {\n b", "a = (\n b }", " ]", "a = 'x\n b", ""):
+        for text in ("a = {\n b", "a = (\n b }", " ]", "a = 'x\n b", "", "(\n" * 2_000 + ")\n" * 2_000):
             self.assertEqual(self.indented(text), text)
 
     def test_tokens_stay(self):
