@@ -94,10 +94,13 @@ class Grammars:
         """Links the grammars of a file and of one that it mentions."""
         if key not in self.outlines:
             return
-        node, target = place.node, (key, 0)
-        if place.name.role == EXTERNAL and self.outlines[key].is_grammar:
-            self._around.setdefault(target, []).append(node)
+        node, outline = place.node, self.outlines[key]
+        if place.name.role == EXTERNAL and outline.is_grammar:
+            self._around.setdefault((key, 0), []).append(node)
             return
+        # what is included may be a pattern `grammar { .. }`, which is the first grammar in its file
+        is_inside = place.name.role == INCLUDE and not outline.is_grammar and 1 in outline.enclosing
+        target = key, int(is_inside)
         self._below.setdefault(node, []).append((target, place.name.text if place.name.role == INCLUDE else None))
         self._above.setdefault(target, []).append(node)
 

@@ -151,6 +151,13 @@ class Definitions(Asking):
         self.client.open(self.uri("part.rnc"), self.texts[self.uri("part.rnc")])
         self.assertEqual((self.definition("6"), self.references("9")), ("1 7", "1 3 6 7 9"))
 
+    def test_files_that_are_grammars_in_braces(self):
+        self.put("main.rnc", 'include "part.rnc" { @1@a = @2@b }\nstart = @3@a | external "other.rnc"\n@4@c = text')
+        self.put("part.rnc", "# a grammar\n(grammar { start = @5@a  @6@a = text  @7@b = empty })")
+        self.put("other.rnc", "grammar { start = parent @8@c | @9@c  @0@c = text }")
+        self.assertEqual([self.definition(mark) for mark in "1235789"], ["6", "7", "1", "1 6", "7", "4", "0"])
+        self.assertEqual([self.references(mark) for mark in "124"], ["1 3 5 6", "2 7", "4 8"])
+
     def test_start_is_replaced(self):
         self.put("main.rnc", 'include "part.rnc" { @1@start = a }')
         self.put("part.rnc", "@2@start = a\na = text", False)
