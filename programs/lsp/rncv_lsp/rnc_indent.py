@@ -6,7 +6,7 @@ from typing import Dict, Iterator, List, NamedTuple
 
 from rncv_lsp.rnc_outline import DEFINE, START
 from rncv_lsp.rnc_parts import Outline
-from rncv_lsp.rnc_tokens import CNAME, LITERAL, OPEN, SIGN, Token, lexed
+from rncv_lsp.rnc_tokens import CNAME, LITERAL, OPEN, SIGN, WORD, Token, lexed
 from rncv_lsp.texts import LINE_END
 
 BLANKS = re.compile("[ \t]*")
@@ -38,7 +38,8 @@ class Bracket(NamedTuple):
 
 def letter(token: Token) -> str:
     """The letter of a token."""
-    return "L" if token.kind == LITERAL else LETTERS.get(token.text) or ("N" if token.is_name or token.kind == CNAME else ".")
+    known = LETTERS.get(token.text) if token.kind in (WORD, SIGN) else None
+    return "L" if token.kind == LITERAL else known or ("N" if token.is_name or token.kind == CNAME else ".")
 
 
 def is_operator(token: Token) -> bool:

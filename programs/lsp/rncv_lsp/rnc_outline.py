@@ -168,6 +168,12 @@ class Reader:
         is_sign = following.kind == SIGN and following.text in ASSIGNMENTS
         return is_sign and (token.is_identifier or (token.kind == WORD and token.text == "start"))
 
+    def _has_value(self) -> bool:
+        """Whether a literal follows a name and `=`, or is not there yet: then the end or another name with `=` follows."""
+        value, sign = self._next(2), self._next(3)
+        is_next = sign.kind == SIGN and sign.text in ASSIGNMENTS
+        return self._next().text == "=" and (value.kind in (LITERAL, OPEN) or is_next or (value.kind == SIGN and value.text in ("}", "]", "")))
+
     def _definition(self, token: Token) -> None:
         """Takes the name of a definition, and what stands behind it."""
         self._to_content()
@@ -192,8 +198,7 @@ class Reader:
     def _annotation(self, token: Token) -> None:
         """Takes a token of an annotation. What cannot be in one ends it."""
         is_open = self.stack[-1].kind == SQUARE
-        is_value = self._next(2).kind in (LITERAL, OPEN)
-        if is_open and ((token.kind == SIGN and token.text in NOT_ANNOTATION) or (self._assigns(token) and not is_value)):
+        if is_open and ((token.kind == SIGN and token.text in NOT_ANNOTATION) or (self._assigns(token) and not self._has_value())):
             self._leave_annotations()
             return
         if token.kind == SIGN and token.text == "[":
@@ -244,11 +249,8 @@ class Reader:
 
     def _params(self, token: Token) -> None:
         """Takes a token in the braces of a datatype."""
-        value, is_last = self._next(2), self._next(3).kind == SIGN and self._next(3).text in ASSIGNMENTS
-        is_value = value.kind in (LITERAL, OPEN)
-        # A value that is not there yet is followed by the end, or by another parameter.
-        if token.is_name and self._next().text == "=" and (is_value or is_last or (value.kind == SIGN and value.text in ("}", ""))):
-            self.at += 3 if is_value else 2
+        if token.is_name and self._has_value():
+            self.at += 2
         elif self._assigns(token):
             self._definition(token)
         elif token.kind == SIGN and token.text == "}":
@@ -376,7 +378,7 @@ class Reader:
             self._to_content()
         words, place, inherited = self._literal(), self._next(), None
         first, self.at = self.at, self._after_literal()
-        if self._next(0).text == "inherit" and self._next(1).text == "=" and self._next(2).is_name:
+        if self._next(0)[:2] == (WORD, "inherit") and self._next(1).text == "=" and self._next(2).is_name:
             inherited = self._next(2)
             self.at += 3
         self.expects = False
@@ -427,7 +429,7 @@ class Reader:
             self.at += 1
             return
         self.at += 1
-        is_inherited = self._next().text == "inherit"
+        is_inherited = self._next()[:2] == (WORD, "inherit")
         value = None if is_inherited else self._literal() or ""
         if is_default:
             self._add(SPACE, keyword, "", value)

@@ -224,6 +224,11 @@ div {
         self.assertEqual([self.definition(mark) for mark in "247"], ["5", "5", "5"])
         self.assertEqual(len(self.about("documentSymbol", self.marks["1"][0])), 4)
 
+    def test_annotations_without_values(self):
+        uri = self.put("s.rnc", "[ a = ] start = @1@a [ b = c = 'd' e [ f = ] ]\n@2@a = text include 'x'\n\\inherit = a [ g =\n@3@h = element x { @4@a } i = @5@h")
+        self.assertEqual([self.definition(mark) for mark in "145"], ["2", "2", "3"])
+        self.assertEqual([each["name"] for each in self.about("documentSymbol", uri)], ["start", "a", "include x", "inherit", "h", "i"])
+
     def test_literals_comments_and_annotations(self):
         self.put("s.rnc", LITERALS)
         self.assertEqual((self.definition("3"), self.references("1")), ("2 4", "1 2 3 4"))
