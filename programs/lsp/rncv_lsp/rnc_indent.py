@@ -1,6 +1,7 @@
 """The indentation of a schema. Only blanks at the beginning of lines change, none in a literal; a schema whose brackets do not match stays as it is."""
 from __future__ import annotations
 
+import dataclasses
 import re
 from typing import Dict, Iterator, List, NamedTuple
 
@@ -28,12 +29,17 @@ class Line(NamedTuple):
     blanks: str
 
 
-class Bracket(NamedTuple):
-    """An open bracket: the blanks of the line that closes it, and of those in it."""
+@dataclasses.dataclass
+class Level:
+    """What is in an open bracket, or outside all of them. `outside` has the blanks of the line that closes it, `inside` those of its lines, and `item` those
+    of what is there now. `end` is where what is long ends, and `hangs` says that the last line that began with an operator has nothing more."""
 
     sign: str
     outside: str
     inside: str
+    item: str
+    end: int = 0
+    hangs: bool = False
 
 
 def letter(token: Token) -> str:
@@ -62,16 +68,14 @@ class Indenter:
         self.text, self.unit = outline.lines.text, unit
         self.tokens, self.at = lexed(self.text).tokens, 0
         self.long_ones = long_ones(outline, self.tokens)
-        self.brackets: List[Bracket] = []
-        # Where what is long ends, and whether the last line that began with an operator has nothing more, outside the brackets and in each of them.
-        self.ends, self.hangs = [0], [False]
+        self.levels = [Level("", "", "", "")]
         self.is_sure = not any(token.kind == OPEN for token in self.tokens)
 
     def lines(self) -> List[Line]:
         """The lines that may begin with blanks; none if the brackets do not match, or are too many in one another."""
         starts = [0, *(found.end() for found in LINE_END.finditer(self.text))]
         found = list(self._lines(starts))
-        return found if self.is_sure and not self.brackets else []
+        return found if self.is_sure and len(self.levels) == 1 else []
 
     def _lines(self, starts: List[int]) -> Iterator[Line]:
         """The lines, in their order, as long as the brackets match."""
@@ -94,11 +98,11 @@ class Indenter:
         closed = 0
         while self._token(self.at).start == first and self._closes(self._token(self.at + closed), behind):
             closed += 1
-        if 0 < closed <= len(self.brackets):
-            return self.brackets[-closed].outside
-        token, inside = self._token(self.at), self.brackets[-1].inside if self.brackets else ""
-        hanging = HANG if self.hangs[-1] and not is_operator(token) and token.start not in self.long_ones else ""
-        return inside + (self.unit if token.start < self.ends[-1] else "") + hanging
+        if 0 < closed < len(self.levels):
+            return self.levels[-closed].outside
+        token, level = self._token(self.at), self.levels[-1]
+        hanging = HANG if level.hangs and not is_operator(token) and token.start not in self.long_ones else ""
+        return level.inside + (self.unit if token.start < level.end else "") + hanging
 
     def _closes(self, token: Token, behind: int) -> bool:
         """Whether a token closes a bracket, and is on the line that ends before this place."""
@@ -106,31 +110,27 @@ class Indenter:
 
     def _take(self, line: Line, behind: int) -> None:
         """Takes the tokens of a line. What an operator at its beginning joins is behind that."""
-        first = self._token(self.at)
+        first, level = self._token(self.at), self.levels[-1]
         item = self._token(self.at + is_operator(first))
-        self.hangs[-1] = item.start >= behind if is_operator(first) and first.start < behind else self.hangs[-1]
-        outside = line.blanks + " " * (item.start - line.first if item.start < behind and first.start == line.first else 0)
+        if first.start == line.first and not self._closes(first, behind):
+            level.item = line.blanks + " " * (item.start - line.first if item.start < behind else 0)
+            level.hangs = item.start >= behind if is_operator(first) else level.hangs
         while self.at < len(self.tokens) and self.tokens[self.at].start < behind:
-            token = self.tokens[self.at]
-            if token.start in self.long_ones:
-                self.ends[-1], self.hangs[-1] = self.long_ones[token.start], False
-            if token.kind == SIGN and token.text in ("{", "(", "["):
-                is_aligned = token.text == "(" and token is item
-                self.brackets.append(Bracket(token.text, outside, outside + (" " if is_aligned else self.unit)))
-                self.is_sure = self.is_sure and len(self.brackets) <= MOST_DEPTH
-                self.ends.append(0)
-                self.hangs.append(False)
-            elif token.kind == SIGN and token.text in PARTNERS:
-                self._close(PARTNERS[token.text])
+            self._take_token(self.tokens[self.at], item)
             self.at += 1
 
-    def _close(self, partner: str) -> None:
-        """Closes the last bracket."""
-        self.is_sure = self.is_sure and bool(self.brackets) and self.brackets[-1].sign == partner
-        if self.brackets:
-            self.brackets.pop()
-            self.ends.pop()
-            self.hangs.pop()
+    def _take_token(self, token: Token, item: Token) -> None:
+        """Takes a token of a line whose first pattern begins with an item."""
+        level = self.levels[-1]
+        if token.start in self.long_ones:
+            level.end, level.hangs = self.long_ones[token.start], False
+        if token.kind == SIGN and token.text in ("{", "(", "["):
+            is_aligned = token.text == "(" and token is item
+            self.levels.append(Level(token.text, level.item, level.item + (" " if is_aligned else self.unit), level.item))
+            self.is_sure = self.is_sure and len(self.levels) <= MOST_DEPTH
+        elif token.kind == SIGN and token.text in PARTNERS:
+            self.is_sure = self.is_sure and level.sign == PARTNERS[token.text]
+            del self.levels[max(1, len(self.levels) - 1):]
 
 
 def indented(outline: Outline, unit: str) -> List[Line]:
