@@ -15,7 +15,7 @@ PARTNERS = {"}": "{", ")": "(", "]": "["}
 # Declarations and mentions, by a letter for each token.
 LETTERS = {"include": "C", "inherit": "I", "namespace": "S", "default": "D", "datatypes": "T", "=": "=", "~": "~"}
 LONG = re.compile("CL(?:~L)*(?:I=[NCISDT])?|D?S[NCISDT]?=(?:L(?:~L)*|I)|T?[NCISDT]=L(?:~L)*")
-OPERATORS = ("|", "&", ",")
+OPERATORS = ("|", "&", ",", ">>")
 HANG = "  "
 # Deeper brackets are no schema (docs/use/LANGUAGE.md), and would need very long lines.
 MOST_DEPTH = 1_000
@@ -49,8 +49,13 @@ def letter(token: Token) -> str:
 
 
 def is_operator(token: Token) -> bool:
-    """Whether a token joins patterns."""
+    """Whether a token joins patterns, or an annotation to one."""
     return token.kind == SIGN and token.text in OPERATORS
+
+
+def closes(token: Token) -> bool:
+    """Whether a token closes a bracket."""
+    return token.kind == SIGN and token.text in PARTNERS
 
 
 def long_ones(outline: Outline, tokens: List[Token]) -> Dict[int, int]:
@@ -82,7 +87,7 @@ class Indenter:
         for start, behind in zip(starts, [*starts[1:], len(self.text) + 1]):
             first = BLANKS.match(self.text, start).end()  # type: ignore[union-attr]
             is_inside = self.at > 0 and self.tokens[self.at - 1].end > start
-            line = Line(start, first, self._blanks(first, behind))
+            line = Line(start, first, self._blanks(first))
             if self.text[first:first + 1].strip() and not is_inside:
                 yield line
             self._take(line, behind)
@@ -93,44 +98,40 @@ class Indenter:
         """The token with this index; behind the last one, a token at the end of the text."""
         return self.tokens[index] if index < len(self.tokens) else Token(SIGN, "", len(self.text), len(self.text))
 
-    def _blanks(self, first: int, behind: int) -> str:
-        """The blanks of the line that begins here, and ends before the other place. It may close brackets first."""
-        closed = 0
-        while self._token(self.at).start == first and self._closes(self._token(self.at + closed), behind):
-            closed += 1
-        if 0 < closed < len(self.levels):
-            return self.levels[-closed].outside
+    def _blanks(self, first: int) -> str:
+        """The blanks of the line that begins here. It may close a bracket first."""
         token, level = self._token(self.at), self.levels[-1]
+        if token.start == first and len(self.levels) > 1 and closes(token):
+            return level.outside
         hanging = HANG if level.hangs and not is_operator(token) and token.start not in self.long_ones else ""
         return level.inside + (self.unit if token.start < level.end else "") + hanging
-
-    def _closes(self, token: Token, behind: int) -> bool:
-        """Whether a token closes a bracket, and is on the line that ends before this place."""
-        return token.kind == SIGN and token.text in PARTNERS and token.start < behind
 
     def _take(self, line: Line, behind: int) -> None:
         """Takes the tokens of a line. What an operator at its beginning joins is behind that."""
         first, level = self._token(self.at), self.levels[-1]
         item = self._token(self.at + is_operator(first))
-        if first.start == line.first and not self._closes(first, behind):
+        if first.start == line.first and not closes(first):
             level.item = line.blanks + " " * (item.start - line.first if item.start < behind else 0)
             level.hangs = item.start >= behind if is_operator(first) else level.hangs
         while self.at < len(self.tokens) and self.tokens[self.at].start < behind:
-            self._take_token(self.tokens[self.at], item)
+            item = self._take_token(self.tokens[self.at], item)
             self.at += 1
 
-    def _take_token(self, token: Token, item: Token) -> None:
-        """Takes a token of a line whose first pattern begins with an item."""
+    def _take_token(self, token: Token, item: Token) -> Token:
+        """Takes a token of a line whose first pattern begins with an item. Returns the item in a parenthesis, if it begins with one."""
         level = self.levels[-1]
         if token.start in self.long_ones:
             level.end, level.hangs = self.long_ones[token.start], False
         if token.kind == SIGN and token.text in ("{", "(", "["):
-            is_aligned = token.text == "(" and token is item
-            self.levels.append(Level(token.text, level.item, level.item + (" " if is_aligned else self.unit), level.item))
+            is_aligned, following = token.text == "(" and token is item, self._token(self.at + 1)
+            inside = level.item + (" " if is_aligned else self.unit)
+            self.levels.append(Level(token.text, level.item, inside, inside if is_aligned else level.item))
             self.is_sure = self.is_sure and len(self.levels) <= MOST_DEPTH
-        elif token.kind == SIGN and token.text in PARTNERS:
+            return following if is_aligned and following.start == token.end else item
+        if closes(token):
             self.is_sure = self.is_sure and level.sign == PARTNERS[token.text]
             del self.levels[max(1, len(self.levels) - 1):]
+        return item
 
 
 def indented(outline: Outline, unit: str) -> List[Line]:
