@@ -29,7 +29,7 @@ class Name(NamedTuple):
 
 
 class Opened(NamedTuple):
-    """The beginning of a part of the outline: a definition, `start`, `grammar`, `div` or `include`."""
+    """The beginning of a part of the outline: a definition, `start`, `grammar`, `div`, `include`, or an element that is in no definition."""
 
     kind: str
     text: str
@@ -40,12 +40,14 @@ class Opened(NamedTuple):
 
 
 class Frame(NamedTuple):
-    """What is open. `words` is the file of an `include`, a datatype, or the role of names. `is_in_definition`: a definition around it is open."""
+    """What is open. `words` is the file of an `include`, a datatype, or the role of names. `is_in_definition`: a definition around it is open. `is_part`: it
+    is in the outline."""
 
     kind: str
     scope: int = 0
     words: Optional[str] = None
     is_in_definition: bool = False
+    is_part: bool = False
 
 
 class State(NamedTuple):
@@ -81,6 +83,8 @@ class Reader:
         self.expects, self.lead, self.last_end = state.expects, -state.lead if state.lead else None, -state.last
         self.facts = Facts([], [], [], False, state)
         self.is_grammar = False
+        # The index of the first name of the class that was read last.
+        self.class_start = 0
 
     def run(self) -> Facts:
         """Reads all tokens."""
@@ -140,6 +144,7 @@ class Reader:
         if frame.kind == CONTENT:
             self._end_definition()
             self.is_in_definition = frame.is_in_definition
+        if frame.kind == CONTENT or frame.is_part:
             self.facts.events.append(end)
         self.stack.pop()
         self.expects = False
@@ -233,8 +238,7 @@ class Reader:
     def _class_sign(self, token: Token) -> None:
         """Takes a sign of a class of names."""
         if token.text == "{":
-            self.stack.pop()
-            self._push(PATTERN)
+            self._element()
         elif token.text in ("|", "-", "("):
             self.expects = True
         elif token.text == ">>":
@@ -246,6 +250,15 @@ class Reader:
         else:
             self.expects = False
         self.at += 1
+
+    def _element(self) -> None:
+        """Opens the braces of an element or attribute. An element that is in no definition is in the outline of a file that is a pattern."""
+        self.stack.pop()
+        self._push(PATTERN)
+        name = next((name for name in self.facts.names[self.class_start:] if name.role == ELEMENT), None)
+        if name is not None and not self.is_in_definition:
+            self.facts.events.append(Opened(ELEMENT, name.text, name.start, name.start, name.end, ""))
+            self.stack[-1] = self.stack[-1]._replace(is_part=True)
 
     def _params(self, token: Token) -> None:
         """Takes a token in the braces of a datatype."""
@@ -336,6 +349,7 @@ class Reader:
     def _named(self, token: Token) -> None:
         """Takes `element` or `attribute`."""
         self._push(CLASS, ELEMENT if token.text == "element" else ATTRIBUTE)
+        self.class_start = len(self.facts.names)
         self.at += 1
 
     def _datatype(self, token: Token) -> None:

@@ -3,13 +3,13 @@ from __future__ import annotations
 
 from typing import Any, Dict, Iterator, List, Tuple
 
-from rncv_lsp.rnc_outline import DEFINE, INCLUDE, START
+from rncv_lsp.rnc_outline import DEFINE, ELEMENT, INCLUDE, START
 from rncv_lsp.rnc_parts import Component, Outline
 from rncv_lsp.rnc_places import Lines
 
 # Kinds of the protocol: by the kind of component, and for definitions by the keyword of their pattern.
 FUNCTION, MODULE, NAMESPACE, PACKAGE, CLASS, PROPERTY, STRUCT, FILE, TYPE = 12, 2, 3, 4, 5, 7, 23, 1, 26
-KINDS = {START: FUNCTION, INCLUDE: MODULE, "grammar": NAMESPACE, "div": PACKAGE}
+KINDS = {START: FUNCTION, INCLUDE: MODULE, "grammar": NAMESPACE, "div": PACKAGE, ELEMENT: CLASS}
 PATTERN_KINDS = {"element": CLASS, "attribute": PROPERTY, "external": FILE, "string": TYPE, "token": TYPE, "grammar": NAMESPACE}
 # An answer with more levels is not what a client can show, and a deep one cannot be written.
 MOST_DEPTH = 50

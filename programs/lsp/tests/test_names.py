@@ -6,14 +6,19 @@ import time
 import unittest
 import unittest.mock
 
-from client import TOP, WithServer, span
+from client import TOP, WithServer, rncv, span
 
 sys.path.insert(0, str(TOP / "programs/lsp"))
+from rncv_lsp.documents import new_document, uri_of  # noqa: E402
+from rncv_lsp.rnc_grammars import Grammars, Outlines  # noqa: E402
 from rncv_lsp.rnc_indent import indented  # noqa: E402
+from rncv_lsp.rnc_names import Asked, rename  # noqa: E402
+from rncv_lsp.rnc_outline import DEFINE, REFERENCE, SPACE_USE  # noqa: E402
 from rncv_lsp.rnc_parts import Outline  # noqa: E402
 from rncv_lsp.rnc_places import Lines  # noqa: E402
 from rncv_lsp.rnc_tokens import lexed  # noqa: E402
 from rncv_lsp.rnc_types import DIGITS, LENGTHS, PARAMETERS, BOUNDS  # noqa: E402
+from rncv_lsp.schema_files import Disk  # noqa: E402
 from rncv_lsp.texts import CODECS, Piece, Text  # noqa: E402
 
 # Words of which texts are made at random.
@@ -225,7 +230,8 @@ div {
         self.assertEqual(len(self.about("documentSymbol", self.marks["1"][0])), 4)
 
     def test_annotations_without_values(self):
-        uri = self.put("s.rnc", "[ a = ] start = @1@a [ b = c = 'd' e [ f = ] ]\n@2@a = text include 'x'\n\\inherit = a [ g =\n@3@h = element x { @4@a } i = @5@h")
+        uri = self.put("s.rnc", "[ a = ] start = @1@a [ b = c = 'd' e [ f = ] ]\n@2@a = text include 'x'\n"
+                             "\\inherit = a [ g =\n@3@h = element x { @4@a } i = @5@h")
         self.assertEqual([self.definition(mark) for mark in "145"], ["2", "2", "3"])
         self.assertEqual([each["name"] for each in self.about("documentSymbol", uri)], ["start", "a", "include x", "inherit", "h", "i"])
 
@@ -338,7 +344,7 @@ a = text""")
                          [({"uri": main, "version": 7}, 1), ({"uri": part, "version": None}, 2)])
 
 
-class Outlines(Asking):
+class Symbols(Asking):
     """Symbols, and what can be folded."""
 
     TEXT = """# one
@@ -377,6 +383,12 @@ o = (e | at)*
             ("o", 23, "", [])])
         self.assertEqual((span(found[0]), span(found[1]), span({"range": found[1]["selectionRange"]}), span(found[2])),
                          ((3, 0, 5, 1), (6, 0, 11, 3), (8, 0, 8, 1), (13, 0, 19, 1)))
+
+    def test_elements_of_a_pattern(self):
+        text = "namespace a = 'u'\nelement a:b { element c | d { text }, attribute e { text }, element * { grammar { start = element f { empty } } }, element g"
+        found = self.about("documentSymbol", self.put("s.rnc", text))
+        self.assertEqual(self.shown(found), [("a:b", 5, "", [("c", 5, "", []), ("grammar", 3, "", [("start", 12, "element f", [])])])])
+        self.assertEqual(span(found[0]), (1, 8, 1, len(text) - 18))
 
     def test_symbols_without_a_tree(self):
         client = self.started()
@@ -603,6 +615,18 @@ div {
                 self.assertEqual(text[line.start:line.first].strip(" \t"), "")
                 new = new[:line.start] + line.blanks + new[line.first:]
             self.assertEqual([token[:2] for token in lexed(new).tokens], [token[:2] for token in lexed(text).tokens], text)
+
+    def test_valid_after_renaming(self):
+        chosen = random.Random(8)
+        for name in ("bibliography/bibliography", "configuration/server", "invoices/message"):
+            path = TOP / f"examples/{name}.rnc"
+            grammars = Grammars([new_document({"uri": path.as_uri(), "text": path.read_text(encoding="utf-8")})], Disk(), Outlines())
+            found = ((key, each) for key, outline in grammars.outlines.items() for each in outline.with_role(DEFINE, REFERENCE, SPACE_USE))
+            places = [(key, each) for key, each in found if each.text != "xml"]
+            for key, each in chosen.sample(places, 15):
+                edits = rename(Asked(grammars, key, each.start, "utf-16"), "zz")
+                files = {key: applied(file.lines.text, edits.get(uri_of(key), [])).encode() for key, file in grammars.files.items()}
+                rncv.compile({key.rpartition("/")[2]: text for key, text in files.items()}, annotations=True)
 
 
 def names_in(outline):
