@@ -4,7 +4,7 @@ from __future__ import annotations
 import itertools
 from typing import Any, Callable, Dict, List, Optional
 
-from rncv_lsp.documents import Document, Documents
+from rncv_lsp.documents import SCHEMA_LANGUAGES, Document, Documents
 from rncv_lsp.rnc_completion import completion
 from rncv_lsp.rnc_grammars import Grammars, Outlines
 from rncv_lsp.rnc_hover import hover
@@ -12,7 +12,7 @@ from rncv_lsp.rnc_indent import indented
 from rncv_lsp.rnc_names import Asked, definition, highlights, prepared, references, rename
 from rncv_lsp.rnc_places import Lines
 from rncv_lsp.rnc_symbols import MOST_SYMBOLS, flat, foldings, tree
-from rncv_lsp.rpc import Handler, member
+from rncv_lsp.rpc import Connection, Handler, member
 from rncv_lsp.schema_files import Disk, opened
 
 MOST_BLANKS = 16
@@ -24,11 +24,12 @@ CAPABILITIES = {
     "documentSymbolProvider": True,
     "workspaceSymbolProvider": True,
     "foldingRangeProvider": True,
-    "documentFormattingProvider": True,
-    "documentRangeFormattingProvider": True,
     "hoverProvider": True,
     "completionProvider": {"triggerCharacters": [":", "\\"]},
 }
+# A client that has several formatters for a document asks its user for one. So that it does not ask for XML, the server registers for schemas alone, if it can.
+FORMATTING = {"formatting": "documentFormattingProvider", "rangeFormatting": "documentRangeFormattingProvider"}
+SCHEMAS = [{"pattern": "**/*.rnc"}, *({"language": language} for language in SCHEMA_LANGUAGES)]
 
 
 def offered(params: Any, *names: str) -> Any:
@@ -47,6 +48,7 @@ class SchemaRequests:
         self._disk, self._outlines = Disk(), Outlines()
         self._has_tree = self._is_markdown = self._has_versions = False
         self._most_foldings: Optional[int] = None
+        self._registered: List[str] = []
         self.requests: Dict[str, Handler] = {
             "textDocument/definition": lambda params: self._answer(params, definition),
             "textDocument/references": self._references,
@@ -70,7 +72,14 @@ class SchemaRequests:
         self._has_versions = offered(params, "workspace", "workspaceEdit", "documentChanges") is True
         most = offered(params, "textDocument", "foldingRange", "rangeLimit")
         self._most_foldings = most if isinstance(most, int) and most > 0 else None
-        return CAPABILITIES
+        self._registered = [name for name in FORMATTING if offered(params, "textDocument", name, "dynamicRegistration") is True]
+        return {**CAPABILITIES, **{capability: True for name, capability in FORMATTING.items() if name not in self._registered}}
+
+    def register(self, connection: Connection) -> None:
+        """Asks the client to send requests about the format of schemas, and of no other documents."""
+        found = [{"id": name, "method": f"textDocument/{name}", "registerOptions": {"documentSelector": SCHEMAS}} for name in self._registered]
+        if found:
+            connection.ask("client/registerCapability", {"registrations": found}, lambda result: None)
 
     def _schema(self, params: Any) -> Optional[Document]:
         """The open schema that is asked about, if it is one."""

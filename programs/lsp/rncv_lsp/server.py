@@ -35,7 +35,7 @@ class Server:
         self._schemas = SchemaRequests(self._documents, lambda: self._coordinator.settings.datatypes or datatypes)
         self._dispatcher.requests.update({"initialize": self._initialize, "shutdown": self._shutdown, **self._schemas.requests})
         self._dispatcher.notifications.update({
-            "initialized": lambda params: self._ask_settings(),
+            "initialized": self._initialized,
             "exit": self._exit,
             "textDocument/didOpen": self._opened,
             "textDocument/didChange": self._changed,
@@ -98,6 +98,11 @@ class Server:
             },
             "serverInfo": {"name": "rncv-lsp", "version": shown_version()},
         }
+
+    def _initialized(self, params: Any) -> None:
+        """The client accepts requests."""
+        self._ask_settings()
+        self._schemas.register(self._connection)
 
     def _shutdown(self, params: Any) -> None:
         """Accepts no more documents."""

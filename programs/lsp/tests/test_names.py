@@ -6,7 +6,7 @@ import time
 import unittest
 import unittest.mock
 
-from client import TOP, WithServer, rncv, span
+from client import TOP, WithServer, framed, rncv, span
 
 sys.path.insert(0, str(TOP / "programs/lsp"))
 from rncv_lsp.documents import new_document, uri_of  # noqa: E402
@@ -594,6 +594,17 @@ div {
         for path in TOP.glob("examples/*/*.rnc"):
             text = path.read_text(encoding="utf-8")
             self.assertEqual(self.indented(text), text)
+
+    def test_registration(self):
+        self.assertTrue(self.initialized["capabilities"]["documentFormattingProvider"])
+        client = self.started()
+        found = client.initialize(None, None, textDocument={"formatting": {"dynamicRegistration": True}})["capabilities"]
+        self.assertEqual((found.get("documentFormattingProvider"), found.get("documentRangeFormattingProvider")), (None, True))
+        asked = client.until(lambda message: message.get("method") == "client/registerCapability")
+        self.assertEqual([(each["method"], each["registerOptions"]["documentSelector"][0]) for each in asked["params"]["registrations"]],
+                         [("textDocument/formatting", {"pattern": "**/*.rnc"})])
+        client.write(framed({"jsonrpc": "2.0", "id": asked["id"], "result": None}))
+        self.assertEqual(client.stop(), 0)
 
     def test_ranges_and_tabs(self):
         text = "a =\nb\nc =\nd\n"
