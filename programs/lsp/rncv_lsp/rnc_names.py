@@ -17,6 +17,8 @@ DECLARED_BY = {SPACE: SPACE, SPACE_USE: SPACE, LIBRARY: LIBRARY, LIBRARY_USE: LI
 DECLARATIONS = (DEFINE, START, SPACE, LIBRARY)
 PREDECLARED = {SPACE: ("xml", "xmlns"), LIBRARY: ()}  # type: Dict[str, Iterable[str]]
 IDENTIFIER = re.compile(rf"\\?({NCNAME})")
+# A keyword with a name behind it that only its backslash sets apart.
+JOINED = re.compile(r"[-.\w]\\")
 READ, WRITE = 2, 3
 REQUEST_FAILED = -32803
 
@@ -124,7 +126,9 @@ def rename(asked: Asked, new: str) -> Dict[str, List[Dict[str, Any]]]:
     edits: Dict[str, List[Dict[str, Any]]] = {}
     places = places_of(asked) if found[1] != place.name.text else []
     for each, location in zip(places, asked.locations(places)):
-        edits.setdefault(location["uri"], []).append({"range": location["range"], "newText": written(each.name, found[1])})
+        is_joined = each.name.start > 0 and JOINED.match(asked.grammars.files[each.key].lines.text, each.name.start - 1)
+        words = "\\" + found[1] if is_joined else written(each.name, found[1])
+        edits.setdefault(location["uri"], []).append({"range": location["range"], "newText": words})
     return edits
 
 

@@ -327,6 +327,11 @@ a = text""")
             "s.rnc": 'namespace start = "u"\ndatatypes a = "v"\nstart = element start:a { a:a } >> start:a [ start:a = "" ]\na = external "x" inherit = start'})
         self.assertIn('datatypes b = "v"\nstart = element a:a { b:a }', self.renamed("2", "b")["s.rnc"])
 
+    def test_without_blanks(self):
+        self.put("s.rnc", 'namespace@1@\\a="u"\nstart=grammar{start=parent@2@\\list|element a:b{\\b}b=text}\\list=text')
+        self.assertIn("start=parent\\c|element a:b{\\b}b=text}c=text", self.renamed("2", "c")["s.rnc"])
+        self.assertIn('namespace\\p="u"\nstart=grammar{start=parent\\list|element p:b{', self.renamed("1", "p")["s.rnc"])
+
     def test_prepared(self):
         self.put("s.rnc", "start = @1@\\\\list | \U0001F600 @2@a\n\\\\list = text".replace("\\\\", "\\"))
         self.assertEqual(self.ask("prepareRename", "1"), {"range": {"start": {"line": 0, "character": 8}, "end": {"line": 0, "character": 13}},
