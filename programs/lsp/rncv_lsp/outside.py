@@ -7,6 +7,6 @@ for folder in ("python", "profile", "schema"):  # the last is where `make instal
     sys.path.append(str(PROGRAMS / folder))
 
 import rncv  # noqa: E402
-from compact_tokens import ESCAPE, TOKEN, NoToken, Token, meaning, tokens  # noqa: E402
+from compact_tokens import ESCAPE, KEYWORDS, NCNAME, TOKEN, NoToken, Token, character, meaning, tokens  # noqa: E402
 
-__all__ = ["ESCAPE", "NoToken", "TOKEN", "Token", "meaning", "rncv", "tokens"]
+__all__ = ["ESCAPE", "KEYWORDS", "NCNAME", "NoToken", "TOKEN", "Token", "character", "meaning", "rncv", "tokens"]

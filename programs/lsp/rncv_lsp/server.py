@@ -9,6 +9,7 @@ from rncv_lsp.coordinator import Coordinator
 from rncv_lsp.documents import Documents, new_document, path_of
 from rncv_lsp.framing import FramingFault, MessageReader
 from rncv_lsp.parts import joined_capabilities, joined_requests
+from rncv_lsp.rnc_requests import SchemaRequests
 from rncv_lsp.rpc import INTERNAL_ERROR, INVALID_REQUEST, NOT_INITIALIZED, PARSE_ERROR, Connection, Dispatcher, RpcFault, member, within
 from rncv_lsp.settings import settings_of
 from rncv_lsp.texts import CODECS
@@ -31,14 +32,15 @@ class Server:
         self._documents = Documents()
         self._coordinator = Coordinator(self._documents, self._connection, datatypes)
         self._answers = XmlAnswers(self._documents, self._coordinator)
-        self._parts = (self._answers,)
+        self._schemas = SchemaRequests(self._documents, lambda: self._coordinator.settings.datatypes or datatypes)
+        self._parts = (self._schemas, self._answers)
         self._state = "new"
         self._asks_settings = False
         self._dispatcher = Dispatcher(self._connection, self._allow)
         self._dispatcher.requests.update({"initialize": self._initialize, "shutdown": self._shutdown})
         self._dispatcher.requests.update(joined_requests(part.requests for part in self._parts))
         self._dispatcher.notifications.update({
-            "initialized": lambda params: self._ask_settings(),
+            "initialized": self._initialized,
             "exit": self._exit,
             "textDocument/didOpen": self._opened,
             "textDocument/didChange": self._changed,
@@ -101,6 +103,11 @@ class Server:
             },
             "serverInfo": {"name": "rncv-lsp", "version": shown_version()},
         }
+
+    def _initialized(self, params: Any) -> None:
+        """The client accepts requests."""
+        self._ask_settings()
+        self._schemas.register(self._connection)
 
     def _shutdown(self, params: Any) -> None:
         """Accepts no more documents."""

@@ -1,0 +1,104 @@
+"""The outline of a schema as the protocol shows it: its components, and the ranges that can be folded."""
+from __future__ import annotations
+
+from typing import Any, Dict, Iterator, List, Tuple
+
+from rncv_lsp.rnc_outline import DEFINE, ELEMENT, INCLUDE, START
+from rncv_lsp.rnc_parts import Component, Outline
+from rncv_lsp.rnc_places import Lines
+
+# Kinds of the protocol: by the kind of component, and for definitions by the keyword of their pattern.
+FUNCTION, MODULE, NAMESPACE, PACKAGE, CLASS, PROPERTY, STRUCT, FILE, TYPE = 12, 2, 3, 4, 5, 7, 23, 1, 26
+KINDS = {START: FUNCTION, INCLUDE: MODULE, "grammar": NAMESPACE, "div": PACKAGE, ELEMENT: CLASS}
+PATTERN_KINDS = {"element": CLASS, "attribute": PROPERTY, "external": FILE, "string": TYPE, "token": TYPE, "grammar": NAMESPACE}
+# An answer with more levels is not what a client can show, and a deep one cannot be written.
+MOST_DEPTH = 50
+MOST_SYMBOLS = 1_000
+
+
+def kind_of(component: Component) -> int:
+    """The kind of a component."""
+    opened = component.opened
+    if opened.kind != DEFINE:
+        return KINDS[opened.kind]
+    words = [word for word in opened.detail.split(" ") if word not in ("|=", "&=")]
+    return PATTERN_KINDS.get(words[0] if words else "", STRUCT)
+
+
+def name_of(component: Component) -> str:
+    """What is shown as the name of a component. The protocol allows no empty one."""
+    return component.opened.text if component.opened.kind != INCLUDE else f"include {component.opened.text}"
+
+
+def symbol(component: Component, lines: Lines) -> Dict[str, Any]:
+    """A component as a symbol with other ones in it."""
+    opened = component.opened
+    return {
+        "name": name_of(component), "kind": kind_of(component), "detail": opened.detail, "range": lines.range(opened.start, component.end),
+        "selectionRange": lines.range(opened.name_start, opened.name_end), "children": [],
+    }
+
+
+def tree(outline: Outline, lines: Lines) -> List[Dict[str, Any]]:
+    """The components as symbols, those inside others as their children. Very deep ones are beside the one around them."""
+    found: List[Dict[str, Any]] = []
+    symbols: List[Dict[str, Any]] = []
+    path: List[int] = []
+    for component in outline.components:
+        symbols.append(symbol(component, lines))
+        path[min(component.depth, MOST_DEPTH) - 1:] = [len(symbols) - 1]
+        (symbols[path[-2]]["children"] if len(path) > 1 else found).append(symbols[-1])
+    return found
+
+
+def flat(outline: Outline, lines: Lines, uri: str, query: str = "") -> Iterator[Dict[str, Any]]:
+    """The components as symbols in a list, those whose names have the letters of the query in this order."""
+    for component in outline.components:
+        if has_letters(component.opened.text, query):
+            around = outline.components[component.around] if component.around >= 0 else None
+            reported = {"name": name_of(component), "kind": kind_of(component),
+                        "location": {"uri": uri, "range": lines.range(component.opened.start, component.end)}}
+            yield {**reported, "containerName": name_of(around)} if around else reported
+
+
+def has_letters(text: str, query: str) -> bool:
+    """Whether a text has the letters of a query in this order, in either case."""
+    letters = iter(text.lower())
+    return all(letter in letters for letter in query.lower())
+
+
+def braces(outline: Outline) -> Iterator[Tuple[int, int]]:
+    """The pairs of braces and of brackets. One that has no partner is skipped."""
+    waiting: List[Tuple[int, str]] = []
+    for begin, part in outline.placed():
+        for at, sign in part.scan.braces:
+            if sign in "{[":
+                waiting.append((begin + at, sign))
+                continue
+            while sign == "}" and waiting and waiting[-1][1] == "[":
+                waiting.pop()
+            if waiting and waiting[-1][1] == ("{" if sign == "}" else "["):
+                yield waiting.pop()[0], begin + at
+
+
+def comment_lines(outline: Outline, lines: Lines) -> Iterator[Tuple[int, int]]:
+    """The first and the last line of each block of comments."""
+    first, last = -1, -2
+    for begin, part in outline.placed():
+        for start, end in part.scan.comments:
+            line = lines.line(begin + start)
+            if line > last + 1:
+                if last > first:
+                    yield first, last
+                first = line
+            last = lines.line(begin + end)
+    if last > first:
+        yield first, last
+
+
+def foldings(outline: Outline, lines: Lines) -> List[Dict[str, Any]]:
+    """The ranges that can be folded: between braces that are on different lines, whose last line stays, and blocks of comments."""
+    pairs = ((lines.line(start), lines.line(end) - 1) for start, end in braces(outline))
+    found = {pair: {"startLine": pair[0], "endLine": pair[1]} for pair in pairs if pair[1] > pair[0]}
+    comments = [{"startLine": first, "endLine": last, "kind": "comment"} for first, last in comment_lines(outline, lines)]
+    return sorted([*found.values(), *comments], key=lambda reported: (reported["startLine"], -reported["endLine"]))
