@@ -14,7 +14,7 @@ VALUES = {
     "u32": "0",
     "u64": "0",
     "&mut Handle": "&mut Handle::empty(alloc)",
-    "&mut Refusal": "&mut told::refusal_at(None, 1, None)",
+    "&mut Refusal": "&mut Refusal { clause: 0, file: 0, offset: 0, line: 0, column: 0 }",
     "&mut Judgement": "&mut Judgement { kind: 0, clause: 0, line: 0 }",
     "&mut [u8]": "&mut [0u8; 1]",
     "&mut usize": "&mut 0usize",
