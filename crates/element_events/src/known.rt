@@ -26,25 +26,18 @@ pub struct KnownNames {
     names: Vec<GoodName>,
 }
 
-/// Returns the byte at an index, or 0 behind the end.
-fn byte_at(bytes: &[u8], index: usize) -> usize
-    ensures { result < 256 }
-{
-    match bytes.get(index) {
-        Some(byte) => usize::from(*byte),
-        None => 0,
-    }
-}
-
-/// Returns the slot of a name. It hangs on the sizes and on four bytes of the local name.
+/// Returns the slot of a name. It hangs on the sizes, and on the first, the middle and the last byte of the local name.
 fn slot_of(name: ExpandedName<'_>) -> usize
     ensures { result < 256 }
 {
     let local = name.local.as_bytes();
     let size = local.len();
-    let outer = 3 * byte_at(local, 0) + 31 * byte_at(local, size.saturating_sub(1));
-    let inner = 7 * byte_at(local, size / 2) + 13 * byte_at(local, size.saturating_sub(2));
-    (outer + inner + 5 * (size % 256) + name.namespace.len() % 256) % 256
+    if size == 0 {
+        return 0;
+    }
+    let ends = usize::from(local[0]) + 7 * usize::from(local[size - 1]);
+    let middle = 31 * usize::from(local[size / 2]);
+    (ends + middle + 5 * (size % 256) + name.namespace.len() % 256) % 256
 }
 
 /// Returns the name at a place.
@@ -69,6 +62,7 @@ impl KnownNames {
     }
 
     /// Returns the place of a name, if it is kept. Then it is good.
+    #[inline(always)]
     pub fn find(&self, name: ExpandedName<'_>) -> Option<usize>
         ensures place { IfSome result (IsAt (name_told name.entry) self.now.names.items) }
         ensures good { OnSome result (is_good_name (name_told name.entry) ≡ true) }
