@@ -24,12 +24,17 @@ pub struct AttributeBytes<'a> {
     pub value: &'a [u8],
 }
 
-/// Returns whether all bytes are ASCII. It is a call, so that `text_of` is small enough to be inlined.
+/// Returns whether all bytes are ASCII. It looks at all of them without an early exit, so many can be looked at together. It
+/// is a call, so that `text_of` is small enough to be inlined.
 #[inline(never)]
 fn are_ascii(bytes: &[u8]) -> bool
     ensures { result ≡ true → IsAscii bytes.now }
 {
-    bytes.is_ascii()
+    let mut all = 0;
+    'bytes: for byte in bytes.iter() {
+        all |= *byte;
+    }
+    all < 0x80
 }
 
 /// Returns the text of these bytes. Fails with `NotWellFormed` exactly if they are not UTF-8. Bytes that are all ASCII cost
