@@ -28,7 +28,7 @@ use std::sync::Arc;
 /// A document that is told by calls, and judged by the schema of a validator.
 ///
 /// There is no limit but memory on how deep elements nest, how many attributes a tag has and how long a text is. It
-/// keeps the names and values of a tag, a text, the number of open elements, and what the matcher keeps.
+/// keeps the names and values of a tag, up to 255 names, a text, the number of open elements, and what the matcher keeps.
 #[derive(Drop)]
 pub struct EventDocument {
     alloc: Global,
