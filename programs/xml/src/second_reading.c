@@ -1,0 +1,283 @@
+#include "second_reading.h"
+
+#include "alone.h"
+#include "text_table.h"
+
+#include <stdlib.h>
+
+enum {
+    MOST_HELD = 67108864 /* the bytes that are held of the elements that are open */
+};
+
+struct second {
+    struct judge whole;   /* judges an element with its attributes */
+    struct judge content; /* judges it without */
+    struct expected all;  /* the elements of the schema */
+    struct element *elements; /* the room for those that are open */
+    uint32_t capacity;
+    bool is_there; /* the judges can judge */
+};
+
+struct hint {
+    struct answer answer;
+    uint64_t owner; /* the number of the start of its element */
+};
+
+/* A document that is read once more. */
+struct second_pass {
+    struct second *second;
+    const struct answer *first; /* the fault that is known, .. */
+    uint64_t first_number;      /* .. and the start or end at which it is */
+    size_t depth;               /* how many elements are open */
+    uint64_t number;            /* of starts and ends so far */
+    size_t held;                /* the bytes of the open elements but the innermost */
+    struct hint *hints;         /* in the order of their places */
+    size_t count, most;
+    uint32_t capacity;
+};
+
+/* ---- the judges */
+
+/* Makes the judges, by the attributes of the schema itself. Where that fails they are not there. */
+static struct second *new_second(struct judge *judge) {
+    struct second *second = calloc(1, sizeof *second);
+    struct bytes written = NO_BYTES;
+    if (second == NULL) {
+        return NULL;
+    }
+    second->whole.shared = judge->shared;
+    second->content.shared = judge->shared;
+    second->is_there = declared_open(&second->whole.declared, &judge->schema) &&
+                       alone_schemas_share(judge->shared->alone, &second->whole.declared, &second->whole.schema, &second->content.schema) &&
+                       rncv_events_begin(&second->whole.schema) == RNCV_DONE && expected_get(&second->whole.schema, &written) &&
+                       expected_open(&second->all, (struct span){written.data, written.length});
+    bytes_free(&written);
+    return second;
+}
+
+static void free_judge(struct judge *judge) {
+    rncv_schema_free(&judge->schema);
+    declared_close(&judge->declared);
+    event_log_free(&judge->log);
+    call_room_free(&judge->room);
+}
+
+void second_free(struct second *second) {
+    if (second == NULL) {
+        return;
+    }
+    free_judge(&second->whole);
+    free_judge(&second->content);
+    expected_close(&second->all);
+    for (uint32_t at = 0; at < second->capacity; at++) {
+        element_free(&second->elements[at]);
+    }
+    free(second->elements);
+    free(second);
+}
+
+/* ---- hints */
+
+static bool is_behind(struct place place, struct place other) {
+    return place.line > other.line || (place.line == other.line && place.column > other.column);
+}
+
+/* Puts a hint behind those that are not behind it. If there are too many, the last one is dropped. */
+static void put_hint(struct second_pass *pass, const struct hint *hint) {
+    if (!items_grow((void **)&pass->hints, (uint32_t)pass->count, &pass->capacity, sizeof *pass->hints)) {
+        struct answer lost = hint->answer;
+        answer_free(&lost);
+        return;
+    }
+    size_t at = pass->count++;
+    while (at > 0 && is_behind(pass->hints[at - 1].answer.place, hint->answer.place)) {
+        pass->hints[at] = pass->hints[at - 1];
+        at--;
+    }
+    pass->hints[at] = *hint;
+    if (pass->count > pass->most) {
+        answer_free(&pass->hints[--pass->count].answer);
+    }
+}
+
+/* Drops what was told of an element that is not allowed where it is: it may be another one, by a wrong name. */
+static void drop_hints(struct second_pass *pass, uint64_t owner) {
+    size_t kept = 0;
+    for (size_t at = 0; at < pass->count; at++) {
+        if (pass->hints[at].owner == owner) {
+            answer_free(&pass->hints[at].answer);
+        } else {
+            pass->hints[kept++] = pass->hints[at];
+        }
+    }
+    pass->count = kept;
+}
+
+/* Tells what is wrong at a start or end of the innermost element. */
+static void add_hint(struct second_pass *pass, const struct alone *alone, uint64_t number) {
+    struct hint hint = {NO_ANSWER, alone->elements[alone->depth - 1].number};
+    bool is_full = pass->count == pass->most;
+    struct place limit = is_full ? pass->hints[pass->count - 1].answer.place : (struct place){0, 0};
+    uint64_t child = alone_tell(alone, number, limit, &hint.answer);
+    if (hint.answer.place.line == 0 || hint.answer.message.failed || hint.answer.name.failed) {
+        answer_free(&hint.answer);
+        return;
+    }
+    if (child != 0) {
+        drop_hints(pass, child);
+    }
+    put_hint(pass, &hint);
+}
+
+/* ---- the document */
+
+/* Judges the content of the innermost element alone, if its attributes are at fault. */
+static void judge_content(struct second_pass *pass, struct alone alone) {
+    uint64_t number = 0;
+    alone.judge = &pass->second->content;
+    alone.has_attributes = false;
+    if (alone_find(&alone, &number) && number > 1) {
+        add_hint(pass, &alone, number);
+    }
+}
+
+/* Judges the innermost element. Of one that the schema does not have, nothing is told. */
+static void judge_element(struct second_pass *pass, const struct position *end) {
+    const struct element *element = &pass->second->elements[pass->depth - 1];
+    const struct alone alone = {&pass->second->whole, pass->second->elements, pass->depth, end, true};
+    uint64_t number = 0;
+    if ((element->is_left && element->is_done) || !alone_find(&alone, &number) || number == 0) {
+        return;
+    }
+    if (number > 1 && !element->is_done) {
+        add_hint(pass, &alone, number);
+    } else if (number == 1 && element_has_name(element, &pass->second->all)) {
+        if (!element->is_left) {
+            add_hint(pass, &alone, number);
+        }
+        if (!element->is_done) {
+            judge_content(pass, alone);
+        }
+    }
+}
+
+/* Whether the fault that is known is one of the attributes of the start where it is. */
+static bool is_of_attributes(const struct answer *first) {
+    return first->reason == REASON_ATTRIBUTE || first->reason == REASON_ATTRIBUTE_VALUE || first->reason == REASON_MISSING || first->reason == REASON_ATTRIBUTES;
+}
+
+/* Marks what the fault that is known is about, at its start. An element that is not allowed there may be another one, by a wrong name. */
+static void mark_start(const struct second_pass *pass, struct element *around, struct element *own) {
+    bool is_attributes = is_of_attributes(pass->first);
+    bool is_element = pass->first->reason == REASON_ELEMENT;
+    if (around != NULL && !is_attributes) {
+        around->is_done = true;
+    }
+    own->is_left |= is_attributes || is_element;
+    own->is_done |= is_element;
+}
+
+static bool is_within_limits(const struct second_pass *pass) {
+    const struct element *last = &pass->second->elements[pass->depth - 1];
+    return !last->failed && pass->held + element_held(last) <= MOST_HELD;
+}
+
+static bool take_start(void *context, const struct start_event *start) {
+    struct second_pass *pass = context;
+    struct second *second = pass->second;
+    struct mark mark = {place_of(&start->position), ++pass->number};
+    if (!items_grow((void **)&second->elements, (uint32_t)pass->depth, &second->capacity, sizeof *second->elements)) {
+        return false;
+    }
+    struct element *own = &second->elements[pass->depth];
+    struct element *around = pass->depth == 0 ? NULL : own - 1;
+    if (around != NULL) {
+        element_take_child(around, &start->name, mark);
+        pass->held += element_held(around);
+    }
+    element_begin(own, start, mark);
+    pass->depth++;
+    if (pass->number == pass->first_number) {
+        mark_start(pass, around, own);
+    }
+    return is_within_limits(pass) && (around == NULL || !around->failed);
+}
+
+static bool take_text(void *context, const struct text_event *text) {
+    struct second_pass *pass = context;
+    if (pass->depth > 0) {
+        element_take_text(&pass->second->elements[pass->depth - 1], text);
+    }
+    return pass->depth == 0 || is_within_limits(pass);
+}
+
+/* No fault is before the one that is known, so the elements before it need not be judged. */
+static bool take_end(void *context, const struct position *position, const struct event_name *name) {
+    struct second_pass *pass = context;
+    struct element *own = &pass->second->elements[pass->depth - 1];
+    (void)name;
+    own->is_done |= ++pass->number == pass->first_number;
+    if (pass->number >= pass->first_number) {
+        judge_element(pass, position);
+    }
+    pass->depth--;
+    pass->held -= pass->depth == 0 ? 0 : element_held(own - 1);
+    return true;
+}
+
+static bool take_instruction(void *context, const struct position *position, struct span target, struct span data) {
+    struct second_pass *pass = context;
+    (void)position;
+    (void)target;
+    (void)data;
+    if (pass->depth > 0) {
+        pass->second->elements[pass->depth - 1].is_empty = false;
+    }
+    return true;
+}
+
+/* The notes are known. */
+static void take_note(void *context, struct place place, const char *what) {
+    (void)context;
+    (void)place;
+    (void)what;
+}
+
+static size_t held(const void *context) {
+    const struct second_pass *pass = context;
+    return pass->held + (pass->depth == 0 ? 0 : element_held(&pass->second->elements[pass->depth - 1]));
+}
+
+static void read_again(struct second_pass *pass, const struct shared *shared, const struct byte_source *source) {
+    struct fault fault = NO_FAULT;
+    struct event_sink sink = {take_start, take_text, take_end, take_instruction, take_note, NULL, held, pass, true, shared->depth, shared->memory};
+    read_events(source, &sink, &fault);
+    fault_free(&fault);
+}
+
+/* Moves the hints to the answer. */
+static void give_hints(struct second_pass *pass, struct answer *answer) {
+    answer->hints = pass->count == 0 ? NULL : calloc(pass->count, sizeof *answer->hints);
+    for (size_t at = 0; at < pass->count; at++) {
+        if (answer->hints == NULL) {
+            answer_free(&pass->hints[at].answer);
+        } else {
+            answer->hints[answer->hint_count++] = pass->hints[at].answer;
+        }
+    }
+    free(pass->hints);
+}
+
+void second_reading(struct judge *judge, const struct byte_source *source, uint64_t number, struct answer *answer) {
+    rncv_verdict verdict;
+    rncv_events_finish(&judge->schema, &verdict); /* one may be in progress */
+    if (judge->second == NULL) {
+        judge->second = new_second(judge);
+    }
+    if (judge->second == NULL || !judge->second->is_there) {
+        return;
+    }
+    struct second_pass pass = {.second = judge->second, .first = answer, .first_number = number, .most = judge->shared->most_faults - 1};
+    read_again(&pass, judge->shared, source);
+    give_hints(&pass, answer);
+}
