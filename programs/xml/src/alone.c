@@ -4,6 +4,7 @@
 #include "text_table.h"
 #include "xml_names.h"
 
+#include <stdio.h>
 #include <stdlib.h>
 
 enum {
@@ -119,18 +120,23 @@ size_t element_held(const struct element *element) {
     return element->log.bytes.length + element->text.length + element->count * sizeof *element->marks;
 }
 
-bool element_has_name(const struct element *element, const struct expected *expected) {
-    struct log_reader reader;
-    struct logged event = {.kind = LOGGED_DECLARATION};
-    log_reader_open(&reader, &element->log, element->log.bytes.length);
-    while (event.kind == LOGGED_DECLARATION && log_reader_next(&reader, &event)) {
-    }
-    bool has_name = event.kind == LOGGED_START && !reader.failed && expected_has(expected, event.name.uri, event.name.local);
-    log_reader_close(&reader);
-    return has_name;
+/* ---- whether it is good */
+
+enum { ROOT_BYTES = 16 };
+
+/* The name of the root around the element. */
+static struct event_name root_of(const struct alone *alone, char room[ROOT_BYTES]) {
+    size_t length = (size_t)snprintf(room, ROOT_BYTES, "k%u", (unsigned)alone->member);
+    return (struct event_name){{"", 0}, {room, length}, {"", 0}};
 }
 
-/* ---- whether it is good */
+/* Begins a document with the root. Its number is never that of a fault. */
+static int32_t begin(const struct alone *alone) {
+    char room[ROOT_BYTES];
+    struct event_name root = root_of(alone, room);
+    int32_t status = rncv_events_begin(&alone->judge->schema);
+    return status != RNCV_DONE ? status : library_start(&alone->judge->schema, &alone->judge->room, UINT64_MAX, &root, NULL, 0);
+}
 
 /* Passes an event of the list. A start or an end gets the next number. */
 static int32_t pass(const struct alone *alone, const struct log_reader *reader, const struct logged *event, uint64_t *number) {
@@ -160,7 +166,7 @@ bool alone_find(const struct alone *alone, uint64_t *number) {
     struct logged event;
     uint64_t passed = 0;
     rncv_schema *schema = &alone->judge->schema;
-    int32_t status = rncv_events_begin(schema);
+    int32_t status = begin(alone);
     log_reader_open(&reader, &own_of(alone)->log, own_of(alone)->log.bytes.length);
     while (status == RNCV_DONE && log_reader_next(&reader, &event)) {
         status = pass(alone, &reader, &event, &passed);
@@ -168,7 +174,7 @@ bool alone_find(const struct alone *alone, uint64_t *number) {
     status = status == RNCV_DONE ? pass_text(alone) : status;
     status = status == RNCV_DONE ? rncv_events_end(schema, ++passed) : status;
     status = status == RNCV_DONE ? rncv_events_invalid_since(schema, number) : status;
-    bool is_known = status == RNCV_DONE && !reader.failed;
+    bool is_known = status == RNCV_DONE && !reader.failed && *number != UINT64_MAX;
     log_reader_close(&reader);
     return is_known;
 }
@@ -196,9 +202,10 @@ static void log_declaration(struct event_log *log, const struct event_name *name
     event_log_declarations(log, &(struct start_event){.declarations = &declaration, .declaration_count = 1});
 }
 
-/* Begins the log with the declarations of the elements around. False: memory ran out. */
+/* Begins the log with the declarations of the elements around, and the root. False: memory ran out. */
 static bool log_around(const struct alone *alone) {
     struct logged event;
+    char room[ROOT_BYTES];
     bool is_good = true;
     event_log_clear(&alone->judge->log);
     for (size_t at = 0; at + 1 < alone->depth && is_good; at++) {
@@ -210,6 +217,7 @@ static bool log_around(const struct alone *alone) {
         is_good = !reader.failed;
         log_reader_close(&reader);
     }
+    event_log_start(&alone->judge->log, &(struct start_event){.name = root_of(alone, room)});
     return is_good;
 }
 
@@ -299,7 +307,7 @@ static void set_name(struct finding *found, const struct event_name *name) {
 /* Passes all up to the start or end with this number, and notes what is there. False: memory ran out, or it is the end of a child, which has nothing in it. */
 static bool find_again(struct alone_telling *telling, uint64_t number) {
     struct finding *found = &telling->found;
-    bool is_good = log_around(telling->alone) && rncv_events_begin(&telling->alone->judge->schema) == RNCV_DONE;
+    bool is_good = log_around(telling->alone) && begin(telling->alone) == RNCV_DONE;
     while (is_good && go_on(telling, number)) {
     }
     bool is_start = telling->number == number && telling->event.kind == LOGGED_START;

@@ -19,6 +19,7 @@ struct element {
     struct place text_place;
     struct place place;
     uint64_t number; /* of its start */
+    uint32_t set;    /* what it may be (contexts.h) */
     bool has_children;
     bool is_empty; /* nothing came behind its start tag */
     bool is_begun; /* the text has a character that is no blank */
@@ -37,15 +38,13 @@ void element_free(struct element *element);
 /* The bytes that it has. */
 size_t element_held(const struct element *element);
 
-/* Gets its name. False: memory ran out. */
-bool element_has_name(const struct element *element, const struct expected *expected);
-
 /* An element and what judges it. */
 struct alone {
     struct judge *judge;            /* by one of the schemas for an element alone */
     const struct element *elements; /* those that are open: .. */
     size_t depth;                   /* .. the last one is judged */
     const struct position *end;
+    uint32_t member;                /* which element of the schema it is */
     bool has_attributes;            /* the schema has them */
 };
 

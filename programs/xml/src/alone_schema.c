@@ -3,7 +3,8 @@
 #include <string.h>
 
 /* The simple form has elements `e0`, `e1`, .. and patterns `p0`, `p1`, .., which mention each other. In the new schema the mentions stay as they are, but `e0` is
- * an element of the same name without attributes and content. `o0` is the element as it was, and the start is a choice of these. */
+ * an element of the same name without attributes and content. `o0` is the element as it was, and the root is an element `k0` around it, so that the root says
+ * which element of the schema it is. */
 
 bool alone_schemas_open(struct alone_schemas *schemas, uint32_t datatypes) {
     memset(schemas, 0, sizeof *schemas);
@@ -17,10 +18,9 @@ void alone_schemas_close(struct alone_schemas *schemas) {
     pthread_mutex_destroy(&schemas->lock);
 }
 
-/* Adds the name of a node of the tree of choices: node 1 is its root, node N has the nodes 2N and 2N + 1, and the last ones are the elements. So no choice is
- * deep. */
+/* Adds the name of a node of the tree of choices: node 1 is its root, node N has the nodes 2N and 2N + 1, and the last ones are the roots. So no choice is deep. */
 static void add_node(struct bytes *text, uint32_t node, uint32_t element_count) {
-    bytes_format(text, node < element_count ? "s%u" : "o%u", (unsigned)(node < element_count ? node : node - element_count));
+    bytes_format(text, node < element_count ? "s%u" : "r%u", (unsigned)(node < element_count ? node : node - element_count));
 }
 
 static void write_start(struct bytes *text, uint32_t element_count) {
@@ -43,7 +43,7 @@ static void write_element(struct bytes *text, const struct declared *declared, u
     bytes_add(text, declared->text + line->class_from, line->class_to - line->class_from);
     bytes_add_text(text, "{ ");
     bytes_add(text, declared->text + line->from, line->to - line->from);
-    bytes_add_text(text, "}\n");
+    bytes_format(text, "}\nr%u = element k%u { o%u }\n", (unsigned)number, (unsigned)number, (unsigned)number);
 }
 
 static void write_pattern(struct bytes *text, const struct declared *declared, uint32_t number, bool has_attributes) {

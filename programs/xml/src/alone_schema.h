@@ -12,8 +12,8 @@ struct alone_schemas {
     uint32_t datatypes; /* the set that the schema was compiled with */
     bool is_tried;
     bool is_there;
-    rncv_schema whole;   /* the root is any element of the schema, and its child elements have neither attributes nor content */
-    rncv_schema content; /* the same, and the root has no attributes either */
+    rncv_schema whole;   /* the root is `kN`, and in it is the element N of the simple form, whose child elements have neither attributes nor content */
+    rncv_schema content; /* the same, and the element N has no attributes either */
 };
 
 /* False: there is no lock. */

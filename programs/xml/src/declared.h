@@ -27,6 +27,9 @@ void declared_close(struct declared *declared);
 
 /* Finds the attributes of the elements with a name. Free the list in each case. */
 void declared_find(struct declared *declared, const struct event_name *element, struct declared_list *list);
+
+/* Finds the elements that a part mentions, each once, by their numbers. */
+void declared_elements(struct declared *declared, struct part part, struct declared_list *list);
 void declared_list_free(struct declared_list *list);
 
 /* Whether a line of an attribute has the name. */

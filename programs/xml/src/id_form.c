@@ -319,7 +319,7 @@ static void read_form(struct form *form) {
     form->start = form->token.at;
     advance(form);
     wants(form, '=');
-    read_part(form);
+    form->root = read_part(form);
     while (form->token.kind != TOKEN_NONE && form_step(form)) {
         read_item(form);
     }
@@ -330,7 +330,8 @@ static void read_form(struct form *form) {
 
 /* Whether all that is mentioned has a line. */
 static bool is_complete(const struct form *form) {
-    bool is_good = true;
+    bool is_good = (form->root.kind != PART_ELEMENT || form->root.number < form->element_count) &&
+                   (form->root.kind != PART_PATTERN || form->root.number < form->pattern_count);
     for (uint32_t at = 0; at < form->element_count + form->pattern_count && is_good; at++) {
         const struct form_line *line = at < form->element_count ? &form->elements[at] : &form->patterns[at - form->element_count];
         const struct part *parts[] = {&line->one, &line->other};

@@ -55,6 +55,7 @@ struct form {
     size_t length;        /* of the text */
     size_t from, to;      /* what was in braces last */
     size_t start;         /* where the line of the start is, after those of the namespaces */
+    struct part root;     /* what is in it */
     struct bytes uris;    /* it never moves */
     struct span *prefixes; /* n0, n1, .. */
     struct form_line *elements;

@@ -1,18 +1,20 @@
 #include "second_reading.h"
 
 #include "alone.h"
+#include "contexts.h"
 #include "text_table.h"
 
 #include <stdlib.h>
 
 enum {
-    MOST_HELD = 67108864 /* the bytes that are held of the elements that are open */
+    MOST_HELD = 67108864, /* the bytes that are held of the elements that are open */
+    MOST_MEMBERS = 16     /* elements of the schema that an element may be; of one that may be more nothing is told */
 };
 
 struct second {
     struct judge whole;   /* judges an element with its attributes */
     struct judge content; /* judges it without */
-    struct expected all;  /* the elements of the schema */
+    struct contexts contexts; /* of the schema */
     struct element *elements; /* the room for those that are open */
     uint32_t capacity;
     bool is_there; /* the judges can judge */
@@ -41,7 +43,6 @@ struct second_pass {
 /* Makes the judges, by the attributes of the schema itself. Where that fails they are not there. */
 static struct second *new_second(struct judge *judge) {
     struct second *second = calloc(1, sizeof *second);
-    struct bytes written = NO_BYTES;
     if (second == NULL) {
         return NULL;
     }
@@ -49,9 +50,7 @@ static struct second *new_second(struct judge *judge) {
     second->content.shared = judge->shared;
     second->is_there = declared_open(&second->whole.declared, &judge->schema) &&
                        alone_schemas_share(judge->shared->alone, &second->whole.declared, &second->whole.schema, &second->content.schema) &&
-                       rncv_events_begin(&second->whole.schema) == RNCV_DONE && expected_get(&second->whole.schema, &written) &&
-                       expected_open(&second->all, (struct span){written.data, written.length});
-    bytes_free(&written);
+                       contexts_open(&second->contexts, &second->whole.declared);
     return second;
 }
 
@@ -66,9 +65,11 @@ void second_free(struct second *second) {
     if (second == NULL) {
         return;
     }
+    if (second->contexts.declared != NULL) {
+        contexts_close(&second->contexts);
+    }
     free_judge(&second->whole);
     free_judge(&second->content);
-    expected_close(&second->all);
     for (uint32_t at = 0; at < second->capacity; at++) {
         element_free(&second->elements[at]);
     }
@@ -131,33 +132,53 @@ static void add_hint(struct second_pass *pass, const struct alone *alone, uint64
 
 /* ---- the document */
 
-/* Judges the content of the innermost element alone, if its attributes are at fault. */
-static void judge_content(struct second_pass *pass, struct alone alone) {
+/* Finds where the innermost element is at fault as each of the elements of the schema that it may be. `number` becomes 0 if it is good as one of them, else it is
+ * the start or end that comes last, and `alone` has its element. False: that is not known. */
+static bool find_fault(struct second_pass *pass, struct alone *alone, uint64_t *number) {
+    const struct contexts *contexts = &pass->second->contexts;
+    uint32_t set = alone->elements[alone->depth - 1].set;
+    uint32_t count = contexts_count(contexts, set);
+    uint32_t last = 0;
+    bool is_known = count > 0 && count <= MOST_MEMBERS;
+    bool is_good = false;
+    *number = 0;
+    for (uint32_t at = 0; at < count && is_known && !is_good; at++) {
+        uint64_t found = 0;
+        alone->member = contexts_member(contexts, set, at);
+        is_known = alone_find(alone, &found);
+        is_good = found == 0;
+        last = found > *number ? alone->member : last;
+        *number = is_good ? 0 : found > *number ? found : *number;
+    }
+    alone->member = last;
+    return is_known;
+}
+
+/* Judges the content of the innermost element by itself, if its attributes are at fault. */
+static void judge_content(struct second_pass *pass, struct alone *alone) {
     uint64_t number = 0;
-    alone.judge = &pass->second->content;
-    alone.has_attributes = false;
-    if (alone_find(&alone, &number) && number > 1) {
-        add_hint(pass, &alone, number);
+    alone->judge = &pass->second->content;
+    alone->has_attributes = false;
+    if (find_fault(pass, alone, &number) && number > 1) {
+        add_hint(pass, alone, number);
     }
 }
 
 /* Judges the innermost element. Of one that the schema does not have, nothing is told. */
 static void judge_element(struct second_pass *pass, const struct position *end) {
     const struct element *element = &pass->second->elements[pass->depth - 1];
-    const struct alone alone = {&pass->second->whole, pass->second->elements, pass->depth, end, true};
+    struct alone alone = {&pass->second->whole, pass->second->elements, pass->depth, end, 0, true};
     uint64_t number = 0;
-    if ((element->is_left && element->is_done) || !alone_find(&alone, &number) || number == 0) {
+    if ((element->is_left && element->is_done) || !find_fault(pass, &alone, &number) || number == 0) {
         return;
+    }
+    if (number == 1 && !element->is_left) {
+        add_hint(pass, &alone, number);
     }
     if (number > 1 && !element->is_done) {
         add_hint(pass, &alone, number);
-    } else if (number == 1 && element_has_name(element, &pass->second->all)) {
-        if (!element->is_left) {
-            add_hint(pass, &alone, number);
-        }
-        if (!element->is_done) {
-            judge_content(pass, alone);
-        }
+    } else if (number == 1 && !element->is_done) {
+        judge_content(pass, &alone);
     }
 }
 
@@ -175,6 +196,16 @@ static void mark_start(const struct second_pass *pass, struct element *around, s
     }
     own->is_left |= is_attributes || is_element;
     own->is_done |= is_element;
+}
+
+/* Finds what an element may be. Nothing is told of one that is not expected where it is: that is said where it is, or behind what is. */
+static void find_context(struct second *second, const struct element *around, struct element *own, const struct event_name *name) {
+    bool is_misplaced = false;
+    if (!contexts_find(&second->contexts, around == NULL ? CONTEXT_START : around->set, name, &own->set, &is_misplaced)) {
+        own->set = CONTEXT_UNKNOWN;
+    }
+    own->is_left = is_misplaced;
+    own->is_done = is_misplaced;
 }
 
 static bool is_within_limits(const struct second_pass *pass) {
@@ -196,6 +227,7 @@ static bool take_start(void *context, const struct start_event *start) {
         pass->held += element_held(around);
     }
     element_begin(own, start, mark);
+    find_context(second, around, own, &start->name);
     pass->depth++;
     if (pass->number == pass->first_number) {
         mark_start(pass, around, own);
