@@ -26,6 +26,7 @@ void element_begin(struct element *element, const struct start_event *start, str
     element->count = 0;
     element->place = mark.place;
     element->number = mark.number;
+    element->has_declarations = start->declaration_count > 0;
     element->has_children = false;
     element->is_empty = true;
     element->is_begun = false;
@@ -210,7 +211,7 @@ static bool log_around(const struct alone *alone) {
     event_log_clear(&alone->judge->log);
     for (size_t at = 0; at + 1 < alone->depth && is_good; at++) {
         struct log_reader reader;
-        log_reader_open(&reader, &alone->elements[at].log, alone->elements[at].log.bytes.length);
+        log_reader_open(&reader, &alone->elements[at].log, alone->elements[at].has_declarations ? alone->elements[at].log.bytes.length : 0);
         while (log_reader_next(&reader, &event) && event.kind == LOGGED_DECLARATION) {
             log_declaration(&alone->judge->log, &event.name);
         }

@@ -20,6 +20,7 @@ struct element {
     struct place place;
     uint64_t number; /* of its start */
     uint32_t set;    /* what it may be (contexts.h) */
+    bool has_declarations;
     bool has_children;
     bool is_empty; /* nothing came behind its start tag */
     bool is_begun; /* the text has a character that is no blank */

@@ -13,8 +13,8 @@ bool alone_schemas_open(struct alone_schemas *schemas, uint32_t datatypes) {
 }
 
 void alone_schemas_close(struct alone_schemas *schemas) {
-    rncv_schema_free(&schemas->whole);
-    rncv_schema_free(&schemas->content);
+    rncv_schema_free(&schemas->whole.schema);
+    rncv_schema_free(&schemas->content.schema);
     pthread_mutex_destroy(&schemas->lock);
 }
 
@@ -82,15 +82,14 @@ static bool compile(const struct alone_schemas *schemas, const struct declared *
     return is_good;
 }
 
-bool alone_schemas_share(struct alone_schemas *schemas, const struct declared *declared, rncv_schema *whole, rncv_schema *content) {
+bool alone_schemas_share(struct alone_schemas *schemas, const struct declared *declared, bool has_attributes, rncv_schema *schema) {
+    struct alone_schema *wanted = has_attributes ? &schemas->whole : &schemas->content;
     pthread_mutex_lock(&schemas->lock);
-    if (!schemas->is_tried) {
-        schemas->is_tried = true;
-        schemas->is_there = declared->form.element_count > 0 && compile(schemas, declared, true, &schemas->whole) &&
-                            compile(schemas, declared, false, &schemas->content);
+    if (!wanted->is_tried) {
+        wanted->is_tried = true;
+        wanted->is_there = declared->form.element_count > 0 && compile(schemas, declared, has_attributes, &wanted->schema);
     }
-    bool is_shared = schemas->is_there && rncv_schema_share(&schemas->whole, whole) == RNCV_DONE &&
-                     rncv_schema_share(&schemas->content, content) == RNCV_DONE;
+    bool is_shared = wanted->is_there && rncv_schema_share(&wanted->schema, schema) == RNCV_DONE;
     pthread_mutex_unlock(&schemas->lock);
     return is_shared;
 }

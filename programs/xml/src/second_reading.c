@@ -8,16 +8,19 @@
 
 enum {
     MOST_HELD = 67108864, /* the bytes that are held of the elements that are open */
+    TOLD_OF_EACH = 16,    /* hints that are told for each one that is kept, at most */
     MOST_MEMBERS = 16     /* elements of the schema that an element may be; of one that may be more nothing is told */
 };
 
 struct second {
     struct judge whole;   /* judges an element with its attributes */
-    struct judge content; /* judges it without */
+    struct judge content; /* judges it without, once that is wanted */
     struct contexts contexts; /* of the schema */
     struct element *elements; /* the room for those that are open */
     uint32_t capacity;
-    bool is_there; /* the judges can judge */
+    bool is_there;      /* elements can be judged, .. */
+    bool has_content;   /* .. also without their attributes, .. */
+    bool wants_content; /* .. if that was tried */
 };
 
 struct hint {
@@ -35,6 +38,7 @@ struct second_pass {
     size_t held;                /* the bytes of the open elements but the innermost */
     struct hint *hints;         /* in the order of their places */
     size_t count, most;
+    size_t told; /* how many were told, also of those that are not kept */
     uint32_t capacity;
 };
 
@@ -49,9 +53,18 @@ static struct second *new_second(struct judge *judge) {
     second->whole.shared = judge->shared;
     second->content.shared = judge->shared;
     second->is_there = declared_open(&second->whole.declared, &judge->schema) &&
-                       alone_schemas_share(judge->shared->alone, &second->whole.declared, &second->whole.schema, &second->content.schema) &&
+                       alone_schemas_share(judge->shared->alone, &second->whole.declared, true, &second->whole.schema) &&
                        contexts_open(&second->contexts, &second->whole.declared);
     return second;
+}
+
+/* Makes the judge of elements without attributes, the first time. False: there is none. */
+static bool has_content(struct second *second) {
+    if (!second->wants_content) {
+        second->wants_content = true;
+        second->has_content = alone_schemas_share(second->whole.shared->alone, &second->whole.declared, false, &second->content.schema);
+    }
+    return second->has_content;
 }
 
 static void free_judge(struct judge *judge) {
@@ -114,12 +127,16 @@ static void drop_hints(struct second_pass *pass, uint64_t owner) {
     pass->count = kept;
 }
 
+/* Before which place hints are kept; line 0: at each place. */
+static struct place limit_of(const struct second_pass *pass) {
+    return pass->count == pass->most ? pass->hints[pass->count - 1].answer.place : (struct place){0, 0};
+}
+
 /* Tells what is wrong at a start or end of the innermost element. */
 static void add_hint(struct second_pass *pass, const struct alone *alone, uint64_t number) {
     struct hint hint = {NO_ANSWER, alone->elements[alone->depth - 1].number};
-    bool is_full = pass->count == pass->most;
-    struct place limit = is_full ? pass->hints[pass->count - 1].answer.place : (struct place){0, 0};
-    uint64_t child = alone_tell(alone, number, limit, &hint.answer);
+    uint64_t child = alone_tell(alone, number, limit_of(pass), &hint.answer);
+    pass->told += hint.answer.place.line > 0;
     if (hint.answer.place.line == 0 || hint.answer.message.failed || hint.answer.name.failed) {
         answer_free(&hint.answer);
         return;
@@ -159,9 +176,15 @@ static void judge_content(struct second_pass *pass, struct alone *alone) {
     uint64_t number = 0;
     alone->judge = &pass->second->content;
     alone->has_attributes = false;
-    if (find_fault(pass, alone, &number) && number > 1) {
+    if (has_content(pass->second) && find_fault(pass, alone, &number) && number > 1) {
         add_hint(pass, alone, number);
     }
+}
+
+/* Whether a hint about the element would not be kept. */
+static bool is_too_late(const struct second_pass *pass, const struct element *element) {
+    struct place limit = limit_of(pass);
+    return pass->told / TOLD_OF_EACH >= pass->most || (limit.line > 0 && !is_behind(limit, element->place));
 }
 
 /* Judges the innermost element. Of one that the schema does not have, nothing is told. */
@@ -169,7 +192,7 @@ static void judge_element(struct second_pass *pass, const struct position *end) 
     const struct element *element = &pass->second->elements[pass->depth - 1];
     struct alone alone = {&pass->second->whole, pass->second->elements, pass->depth, end, 0, true};
     uint64_t number = 0;
-    if ((element->is_left && element->is_done) || !find_fault(pass, &alone, &number) || number == 0) {
+    if (is_too_late(pass, element) || (element->is_left && element->is_done) || !find_fault(pass, &alone, &number) || number == 0) {
         return;
     }
     if (number == 1 && !element->is_left) {
