@@ -85,18 +85,16 @@ static void add_notes(struct bytes *line, const struct result *result) {
     bytes_add_text(line, result->note_count > 0 || result->schema_note[0] != '\0' ? "]" : "");
 }
 
-/* Adds what was expected, as an array. */
+/* Adds what was expected, as an array. If memory ran out for it, it is left out. */
 static void add_expected(struct bytes *line, const struct answer *answer) {
     const char *at = answer->expected.data;
-    if (answer->expected_count > 0) {
-        bytes_add_text(line, ", \"expected\": [");
-    }
-    for (size_t index = 0; index < answer->expected_count; index++) {
-        bytes_add_text(line, index == 0 ? "" : ", ");
+    size_t count = answer->expected.failed ? 0 : answer->expected_count;
+    for (size_t index = 0; index < count; index++) {
+        bytes_add_text(line, index == 0 ? ", \"expected\": [" : ", ");
         add_string(line, at, strlen(at), false);
         at += strlen(at) + 1;
     }
-    bytes_add_text(line, answer->expected_count > 0 ? "]" : "");
+    bytes_add_text(line, count > 0 ? "]" : "");
 }
 
 static void add_bytes_member(struct bytes *line, const char *name, const struct bytes *text) {
