@@ -76,12 +76,21 @@ static void look_at(struct declared *declared, uint32_t number, struct waiting *
     }
 }
 
+/* Whether an element is looked at, and has the name. */
+static bool is_asked(struct declared *declared, uint32_t number, const struct event_name *name) {
+    bool is_wanted = declared->only == NULL;
+    for (uint32_t at = 0; at < declared->only_count && !is_wanted; at++) {
+        is_wanted = declared->only[at] == number;
+    }
+    return is_wanted && form_class_has(&declared->form, declared->form.elements[number].class, name->uri, name->local);
+}
+
 void declared_find(struct declared *declared, const struct event_name *element, struct declared_list *list) {
     struct waiting waiting = {NULL, 0, 0, false};
     memset(list, 0, sizeof *list);
     begin_search(declared);
     for (uint32_t at = 0; at < declared->form.element_count; at++) {
-        if (form_class_has(&declared->form, declared->form.elements[at].class, element->uri, element->local)) {
+        if (is_asked(declared, at, element)) {
             list->is_known = true;
             await(declared, &waiting, declared->form.elements[at].one);
         }
@@ -168,8 +177,7 @@ bool declared_requires(struct declared *declared, const struct event_name *eleme
     bool is_required = true;
     begin_search(declared);
     for (uint32_t at = 0; at < declared->form.element_count && is_required; at++) {
-        const struct form_line *here = &declared->form.elements[at];
-        is_required = !form_class_has(&declared->form, here->class, element->uri, element->local) || part_requires(declared, here->one, line, 0);
+        is_required = !is_asked(declared, at, element) || part_requires(declared, declared->form.elements[at].one, line, 0);
     }
     return is_required && !declared->form.is_strange;
 }

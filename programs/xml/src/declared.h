@@ -10,6 +10,8 @@ struct declared {
     uint8_t *text;
     struct form form;
     uint32_t time; /* of the last search */
+    const uint32_t *only; /* the elements that are looked at, by their numbers; NULL: all */
+    uint32_t only_count;
     bool is_tried;
     bool is_there;
 };

@@ -16,6 +16,7 @@ struct second {
     struct judge whole;   /* judges an element with its attributes */
     struct judge content; /* judges it without, once that is wanted */
     struct contexts contexts; /* of the schema */
+    uint32_t members[MOST_MEMBERS]; /* what the element may be of which something is told */
     struct element *elements; /* the room for those that are open */
     uint32_t capacity;
     bool is_there;      /* elements can be judged, .. */
@@ -132,9 +133,21 @@ static struct place limit_of(const struct second_pass *pass) {
     return pass->count == pass->most ? pass->hints[pass->count - 1].answer.place : (struct place){0, 0};
 }
 
+/* Takes what an element of the set may be, so that its attributes are looked for in these. */
+static void take_members(struct second *second, uint32_t set) {
+    uint32_t count = contexts_count(&second->contexts, set);
+    for (uint32_t at = 0; at < count; at++) {
+        second->members[at] = contexts_member(&second->contexts, set, at);
+    }
+    second->whole.declared.only = second->members;
+    second->whole.declared.only_count = count;
+}
+
 /* Tells what is wrong at a start or end of the innermost element. */
 static void add_hint(struct second_pass *pass, const struct alone *alone, uint64_t number) {
-    struct hint hint = {NO_ANSWER, alone->elements[alone->depth - 1].number};
+    const struct element *element = &alone->elements[alone->depth - 1];
+    struct hint hint = {NO_ANSWER, element->number};
+    take_members(pass->second, element->set);
     uint64_t child = alone_tell(alone, number, limit_of(pass), &hint.answer);
     pass->told += hint.answer.place.line > 0;
     if (hint.answer.place.line == 0 || hint.answer.message.failed || hint.answer.name.failed) {

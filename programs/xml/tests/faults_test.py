@@ -18,6 +18,7 @@ from testing import RNCV_XML, TOP, InFolder
 
 BOOK = (pathlib.Path(__file__).resolve().parent / "messages.rnc").read_text(encoding="utf-8")
 HEAD = "<head><title>t</title><author>a</author></head>"
+CHAPTER = '<chapter id="c"><title>t</title><para>p</para></chapter>'
 RECORDS = """
 start = element records { attribute version { "1" }, record+ }
 record = element record {
@@ -28,6 +29,170 @@ record = element record {
 address = element address { element street { text }, element town { text }, element zip { xsd:string { pattern = "[0-9]{5}" } }? }
 """
 USUAL = 120  # documents with two faults in an ordinary run
+
+
+LETTER = "\u00e9"
+# Documents by the schema of a book, where `@` is a good head and `%` a good chapter, with what is told of each: the first fault, and hints.
+WORKED = (
+    ("<book>@%</book>", []),
+    ("<book>@<chaptr/>%</book>", ["1:54: invalid: <chaptr> is not allowed here; expected <chapter>"]),
+    # two elements, and each element alone
+    ('<book>\n@\n<chapter id="c"><title>t</title><para><em/></para>\n<note/></chapter>\n</book>',
+     ["3:39: invalid: <em> is not allowed here; expected <code>, <emph>, <link>, {urn:example:vocabulary}term or text",
+      "4:1: hint: <note> ends too early: expected <level>, <para> or <size>"]),
+    # an attribute hides no fault of the content, and the content none of an attribute
+    ('<book lang="xx">\n%\n</book>', ['1:1: invalid: attribute lang of <book> is wrong ("xx"); expected "de", "en" or "fr"',
+                                     "2:1: hint: <chapter> is not allowed here; expected <head>"]),
+    ("<book>\n@%\n<appendix>t</appendix>\n<appendix Id='a'><para/>t</appendix></book>",
+     ["3:1: invalid: <appendix> lacks attribute id",
+      '3:11: hint: text is not allowed in <appendix> ("t"); expected <figure>, <list>, <note>, <para> or <table>',
+      "4:1: hint: attribute Id is not allowed in <appendix>; expected id",
+      '4:25: hint: text is not allowed in <appendix> ("t"); expected <figure>, <list>, <note>, <para> or <table>']),
+    # what is behind the first fault in the same content is not told, and what is in another element is
+    ("<book>\n@x\n<no/>%<appendix/></book>", ['2:48: invalid: text is not allowed in <book> ("x\\n"); expected <chapter>', "3:62: hint: <appendix> lacks attribute id"]),
+    # in an element that the schema does not have, those that it has are judged
+    ('<book>@\n<chaptr id="c" x="y">t<title>t</title><table columns="0"/><other/></chaptr>%</book>',
+     ["2:1: invalid: <chaptr> is not allowed here; expected <chapter>",
+      '2:39: hint: attribute columns of <table> is no xsd:positiveInteger ("0")',
+      "2:39: hint: <table> ends too early: expected <row>"]),
+    # an element that is not allowed where it is may be another one, so nothing is told of itself
+    ("<book>@\n<appendix>t<para><em/></para></appendix>%</book>",
+     ["2:1: invalid: <appendix> is not allowed here; expected <chapter>",
+      "2:18: hint: <em> is not allowed here; expected <code>, <emph>, <link>, {urn:example:vocabulary}term or text"]),
+    ('<book><head/>\n<chapter id="c"><title>t</title>\n<chapter><para/></chapter></chapter></book>',
+     ["1:7: invalid: <head> ends too early: expected <title>",
+      "3:1: hint: <chapter> is not allowed here; expected <figure>, <list>, <note>, <para> or <table>"]),
+    # the places of the ends, and of texts behind blanks and references
+    ('<book><head><title>t</title></head>\n<chapter id="c"> <!-- --> </chapter>\n<chapter id="d"><title>t</title>\n <?i?>&#120;y\n</chapter></book>',
+     ["1:29: invalid: <head> ends too early: expected <author>", "2:27: hint: <chapter> ends too early: expected <title>",
+      '4:7: hint: text is not allowed in <chapter> ("xy\\n"); expected <figure>, <list>, <note>, <para> or <table>']),
+    # the text of an entity has the place of its reference
+    ("<!DOCTYPE book [<!ENTITY e '<note/>'>]>\n<book lang='xx'>@\n<chapter id='c'><title>t</title>\n&e;</chapter></book>",
+     ['2:1: invalid: attribute lang of <book> is wrong ("xx"); expected "de", "en" or "fr"', "4:1: hint: <note> ends too early: expected <level>, <para> or <size>"]),
+    # prefixes are those around the element
+    ("<p:x xmlns:p='u'/>", ["1:1: invalid: <p:x> is not allowed here; expected <book>"]),
+    ("<book xmlns:v='urn:example:vocabulary' lang='xx'>@\n<chapter id='c'><title>t</title><para><em/></para></chapter></book>",
+     ['1:1: invalid: attribute lang of <book> is wrong ("xx"); expected "de", "en" or "fr"',
+      "2:39: hint: <em> is not allowed here; expected <code>, <emph>, <link>, <v:term> or text"]),
+    # a long text is shown in part, and blanks beside elements are nothing
+    ("<book lang='xx'>\n@" + " " * 700 + "%" + " " * 700 + LETTER * 700 + "%</book>",
+     ['1:1: invalid: attribute lang of <book> is wrong ("xx"); expected "de", "en" or "fr"',
+      f'2:1504: hint: text is not allowed in <book> ("{LETTER * 40}.."); expected <appendix> or <chapter>']),
+)
+# By schemas with elements of one name in several places.
+PLACED = """
+start = element a { (x | y)*, any? }
+x = element x { element v { xsd:int } }
+y = element y { element v { xsd:boolean } | element v { attribute n { xsd:int }, element v { empty } } }
+any = element any { (attribute * { text } | text | element * { anything })* }
+anything = (attribute * { text } | text | element * { anything })*
+"""
+IN_PLACES = (
+    ("<a><b/>\n<x><v>1</v></x><y><v>true</v></y><any><x/><v z=''>t</v></any></a>", ["1:4: invalid: <b> is not allowed here; expected <any>, <x> or <y>"]),
+    ("<a><b/>\n<x><v>true</v></x>\n<y><v>yes</v></y></a>",
+     ["1:4: invalid: <b> is not allowed here; expected <any>, <x> or <y>", '2:7: hint: the text of <v> is no xsd:int ("true")',
+      '3:7: hint: the text of <v> is no xsd:boolean ("yes")']),
+    ("<a><b/>\n<y><v n='1'><v>1</v></v></y>\n<y><v n='x'><v/></v></y></a>",
+     ["1:4: invalid: <b> is not allowed here; expected <any>, <x> or <y>", '2:16: hint: text is not allowed in <v> ("1"); expected the end of <v>',
+      '3:4: hint: attribute n of <v> is no xsd:int ("x")']),
+    # in an element that is not expected, each may be any of its name, and here any content is good
+    ("<a><b><v>yes</v><x/></b></a>", ["1:4: invalid: <b> is not allowed here; expected <any>, <x> or <y>"]),
+)
+
+
+class Worked(InFolder):
+    """Documents and what is told of them."""
+
+    def told(self, schema, document, *words):
+        self.write("h.rnc", schema)
+        self.write("d.xml", document.replace("@", HEAD).replace("%", CHAPTER))
+        out, status = self.judge(*words, "h.rnc", "d.xml")
+        return [line.removeprefix("d.xml:") for line in out.splitlines()], status
+
+    def test_documents(self):
+        for schema, rows in ((BOOK, WORKED), (PLACED, IN_PLACES)):
+            for document, wanted in rows:
+                self.assertEqual(self.told(schema, document), (wanted, 1 if wanted else 0), document)
+                self.assertEqual(self.told(schema, document, "--max-faults", "1"), (wanted[:1], 1 if wanted else 0), document)
+
+    def test_most(self):
+        document = "<book>@\n" + "<chapter/>\n" * 2000 + "</book>"
+        for most in (1, 2, 3, 20, 1000):
+            told, status = self.told(BOOK, document, f"--max-faults={most}")
+            self.assertEqual((len(told), status), (most, 1))
+            self.assertEqual([line.split(":")[0] for line in told], [str(2 + at // 2) for at in range(most)])
+        self.assertEqual(len(self.told(BOOK, document)[0]), 20)
+        for wrong in ("0", "1001", "x", "-1", "1x", "", "99999999999999999999"):
+            self.assertEqual(self.run_in(RNCV_XML, f"--max-faults={wrong}", "s.rnc")[1].splitlines()[0],
+                             f"rncv-xml: --max-faults wants a number from 1 to 1000, and not '{wrong}'")
+
+    def test_the_first_ones_are_kept(self):
+        """Elements in others end before these, and a fault of those that are around comes first."""
+        document = "<book>\n<x/>@%" + "".join(f"\n<appendix id='a' x{at}=''><list>\n<item/></list></appendix>" for at in range(9)) + "</book>"
+        told = [line.split(":")[0] for line in self.told(BOOK, document, "--max-faults", "5")[0]]
+        self.assertEqual(told, ["2", "3", "4", "5", "6"])
+
+    def test_verdicts_stay(self):
+        for document, verdict in (("<book>@<chapter/>", 2), ("<book>@<chapter/><chapter/>&e;</book>", 2)):
+            told, status = self.told(BOOK, document)
+            self.assertEqual((len(told), status), (1, verdict))
+        ids = "start = element a { element b { attribute id { xsd:ID } }* }"
+        self.assertEqual(self.told(ids, '<a><b id="x"/><b id="x"/><b id="x"/></a>'), (['1:15: invalid: ID "x" is already at line 1'], 1))
+        self.assertEqual(self.told(BOOK, "<book>@<chapter/>%<appendix/></book>", "--quiet"), ([], 1))
+
+    def test_standard_input(self):
+        self.write("h.rnc", BOOK)
+        text = f"<book>{HEAD}<chapter/></book>".encode()
+        first = "-:1:54: invalid: <chapter> lacks attribute id\n"
+        both = first + "-:1:54: hint: <chapter> ends too early: expected <title>\n"
+        self.assertEqual(self.judge("h.rnc", "-", given=text), (first, 1))
+        self.write("d.xml", text)
+        self.assertEqual(self.shell("rncv-xml h.rnc - < d.xml"), (both, 1))
+        self.write("e.xml", b"line\n" + text)
+        self.assertEqual(self.shell("{ read line; rncv-xml h.rnc -; } < e.xml"), (both, 1))
+        self.assertEqual(self.shell("rncv-xml h.rnc <(cat d.xml)")[0].count("\n"), 1)
+
+    def test_formats(self):
+        document = '<book lang="xx">\n@%<appendix id="1"><em/></appendix></book>'
+        wanted = [(1, 1, "attribute-value", "lang"), (2, 104, "attribute-value", "id"), (2, 121, "element-not-allowed", None)]
+        answer = json.loads(self.told(BOOK, document, "--format", "json")[0][0])
+        self.assertEqual([(each["line"], each["column"], each["reason"], each.get("attribute")) for each in (answer, *answer["hints"])], wanted)
+        self.assertEqual((answer["hints"][0]["at"], answer["hints"][0]["name"], answer["hints"][0]["datatype"]), ("attribute", "id", "xsd:NCName"))
+        self.assertEqual(answer["hints"][1]["message"], "hint: <em> is not allowed here; expected <figure>, <list>, <note>, <para> or <table>")
+        self.assertNotIn("hints", json.loads(self.told(BOOK, "<book>%</book>", "--format", "json")[0][0]))
+        results = json.loads("\n".join(self.told(BOOK, document, "--format", "sarif")[0]))["runs"][0]["results"]
+        self.assertEqual([(each["ruleId"], each["level"], each["properties"]["reason"]) for each in results],
+                         [("invalid", "error", wanted[0][2]), ("hint", "note", wanted[1][2]), ("hint", "note", wanted[2][2])])
+        lines = self.told(BOOK, document, "--format", "github")[0]
+        self.assertEqual([line.split("::")[1].split(" ")[0] for line in lines], ["error", "notice", "notice"])
+        shown = self.told(BOOK, document, "--source")[0]
+        self.assertEqual([line.strip() for line in shown[2::3]], ["^"] * 3)
+        self.assertEqual(shown[8].index("^"), shown[7].index("<em"))
+
+    def test_threads(self):
+        for number in range(60):
+            self.write(f"m{number}.xml", f"<book>{HEAD}{'<chapter/>' * (number % 7)}</book>")
+        self.write("h.rnc", BOOK)
+        names = [f"m{number}.xml" for number in range(60)]
+        self.assertEqual(self.judge("-j", "7", "h.rnc", *names), self.judge("-j", "1", "h.rnc", *names))
+
+    def test_large(self):
+        """Many children, which take more than the log of a document, and elements in each other."""
+        document = '<book lang="xx">@' + "%" * 60_000 + "\n<y/>" + "%" * 10 + "<appendix/></book>"
+        told = self.told(BOOK, document)[0]
+        self.assertEqual([line.split(" ", 1)[1] for line in told[1:]],
+                         ["hint: <y> is not allowed here; expected <appendix> or <chapter>", "hint: <appendix> lacks attribute id"])
+        deep = "start = a\na = element a { attribute x { xsd:int }, a? }"
+        told = self.told(deep, "<a y=''>\n" + "<a x=''>\n" * 9000 + "</a>" * 9001)[0]
+        self.assertEqual([line.split(":")[0] for line in told[:1]], ["1"])
+        self.assertEqual(len(told), 20)
+
+    def test_a_schema_that_is_too_large(self):
+        """The schema for elements alone would break a limit: there are no hints."""
+        names = " | ".join(f"element {'x' * 2000}{at} {{ attribute y {{ text }} }}" for at in range(300))
+        schema = f"start = element a {{ ({names})* }}"
+        told, status = self.told(schema, f"<a><b/><{'x' * 2000}1/></a>")
+        self.assertEqual((len(told), status), (1, 1))
 
 
 # ---- planted faults
@@ -328,5 +493,5 @@ if __name__ == "__main__":
     parser.add_argument("--count", type=int)
     parser.add_argument("--seed", type=int, default=0)
     parser.add_argument("--show", type=int, default=0)
-    words = parser.parse_args()
+    words, _ = parser.parse_known_args()
     main(words.count, words.seed, words.show) if words.count else unittest.main(verbosity=1)
