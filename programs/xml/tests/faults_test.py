@@ -468,8 +468,8 @@ class Planted(unittest.TestCase):
             count = Count()
             count_pairs(name, USUAL // len(SUBJECTS), 1, count)
             self.assertGreaterEqual(count.all, USUAL // len(SUBJECTS) - 10, name)
-            self.assertGreaterEqual(count.both, 0.9 * count.all, name)
-            self.assertLessEqual(count.third, 0.1 * count.all, name)
+            self.assertGreaterEqual(count.both, 0.95 * count.all, name)
+            self.assertLessEqual(count.third, 0.05 * count.all, name)
 
 
 def main(wanted, seed, shows):
