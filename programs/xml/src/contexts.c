@@ -4,7 +4,11 @@
 
 #include <stdlib.h>
 
-enum { MOST_SEARCHES = 65536, SEARCH_STEPS = 5000000 };
+enum {
+    MOST_SEARCHES = 65536, /* that are kept, .. */
+    MOST_BYTES = 16777216, /* .. and the bytes of their names: a document chooses these */
+    SEARCH_STEPS = 5000000
+};
 
 /* The first bytes of a set say which kind it is, so that no two are one. */
 enum set_kind { SET_SPECIAL, SET_EXPECTED, SET_MISPLACED };
@@ -135,7 +139,8 @@ static uint32_t number_of(struct contexts *contexts, uint32_t around, const stru
     bytes_add_byte(key, '\0');
     bytes_add(key, name->uri.data, name->uri.length);
     struct span span = {key->data, key->length};
-    if (key->failed || contexts->searches.count >= MOST_SEARCHES) {
+    bool is_full = contexts->searches.count >= MOST_SEARCHES || contexts->searches.texts.length + key->length > MOST_BYTES;
+    if (key->failed || is_full) {
         return key->failed ? NO_TEXT : text_table_find(&contexts->searches, span);
     }
     return text_table_put(&contexts->searches, span);

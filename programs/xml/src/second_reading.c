@@ -249,15 +249,21 @@ static bool is_within_limits(const struct second_pass *pass) {
     return !last->failed && pass->held + element_held(last) <= MOST_HELD;
 }
 
+/* Room for one more element. NULL: out of memory. */
+static struct element *room_for(struct second *second, size_t depth) {
+    bool has_room = items_grow((void **)&second->elements, (uint32_t)depth, &second->capacity, sizeof *second->elements);
+    return has_room && second->elements != NULL ? &second->elements[depth] : NULL;
+}
+
 static bool take_start(void *context, const struct start_event *start) {
     struct second_pass *pass = context;
     struct second *second = pass->second;
     struct mark mark = {place_of(&start->position), ++pass->number};
-    if (!items_grow((void **)&second->elements, (uint32_t)pass->depth, &second->capacity, sizeof *second->elements)) {
+    struct element *own = room_for(second, pass->depth);
+    if (own == NULL) {
         return false;
     }
-    struct element *own = &second->elements[pass->depth];
-    struct element *around = pass->depth == 0 ? NULL : own - 1;
+    struct element *around = pass->depth == 0 ? NULL : &second->elements[pass->depth - 1];
     if (around != NULL) {
         element_take_child(around, &start->name, mark);
         pass->held += element_held(around);
