@@ -333,7 +333,8 @@ static unsigned jobs_of(const struct options *options) {
 /* Judges the documents by the schema, which is compiled. */
 static void judge_documents(struct report *report, struct shared *shared, struct documents *documents) {
     struct alone_schemas alone;
-    bool is_open = report->options->most_faults > 1 && alone_schemas_open(&alone, report->options->datatypes);
+    bool has_hints = report->options->most_faults > 1 && !report->options->is_quiet;
+    bool is_open = has_hints && alone_schemas_open(&alone, report->options->datatypes);
     shared->most_faults = report->options->most_faults;
     shared->alone = is_open ? &alone : NULL;
     if (!jobs_run(documents, shared, report, jobs_of(report->options))) {

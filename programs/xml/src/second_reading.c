@@ -149,8 +149,9 @@ static void add_hint(struct second_pass *pass, const struct alone *alone, uint64
     struct hint hint = {NO_ANSWER, element->number};
     take_members(pass->second, element->set);
     uint64_t child = alone_tell(alone, number, limit_of(pass), &hint.answer);
-    pass->told += hint.answer.place.line > 0;
-    if (hint.answer.place.line == 0 || hint.answer.message.failed || hint.answer.name.failed) {
+    bool is_told = hint.answer.place.line > 0 && !hint.answer.message.failed && !hint.answer.name.failed;
+    pass->told += is_told;
+    if (!is_told || is_behind(pass->first->place, hint.answer.place)) { /* what is before the first fault is the same one, told in another way */
         answer_free(&hint.answer);
         return;
     }
