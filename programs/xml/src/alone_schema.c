@@ -2,9 +2,9 @@
 
 #include <string.h>
 
-/* The simple form has elements `e0`, `e1`, .. and patterns `p0`, `p1`, .., which mention each other. In the new schema the mentions stay as they are, but `e0` is
- * an element of the same name without attributes and content. `o0` is the element as it was, and the root is an element `k0` around it, so that the root says
- * which element of the schema it is. */
+/* The simple form has elements `e0`, `e1`, .. and patterns `p0`, `p1`, .., which mention each other. In the new schema the mentions stay as they are, but `e0`
+ * is an element of the same name without attributes and content. `o0` is the element as it was, and the root is an element `k0` around it, so that the root
+ * says which element of the schema it is. */
 
 bool alone_schemas_open(struct alone_schemas *schemas, uint32_t datatypes) {
     memset(schemas, 0, sizeof *schemas);
@@ -18,7 +18,8 @@ void alone_schemas_close(struct alone_schemas *schemas) {
     pthread_mutex_destroy(&schemas->lock);
 }
 
-/* Adds the name of a node of the tree of choices: node 1 is its root, node N has the nodes 2N and 2N + 1, and the last ones are the roots. So no choice is deep. */
+/* Adds the name of a node of the tree of choices: node 1 is its root, node N has the nodes 2N and 2N + 1, and the last ones are the roots. So no choice is
+ * deep. */
 static void add_node(struct bytes *text, uint32_t node, uint32_t element_count) {
     bytes_format(text, node < element_count ? "s%u" : "r%u", (unsigned)(node < element_count ? node : node - element_count));
 }

@@ -163,8 +163,8 @@ static void add_hint(struct second_pass *pass, const struct alone *alone, uint64
 
 /* ---- the document */
 
-/* Finds where the innermost element is at fault as each of the elements of the schema that it may be. `number` becomes 0 if it is good as one of them, else it is
- * the start or end that comes last, and `alone` has its element. False: that is not known. */
+/* Finds where the innermost element is at fault as each of the elements of the schema that it may be. `number` becomes 0 if it is good as one of them, else it
+ * is the start or end that comes last, and `alone` has its element. False: that is not known. */
 static bool find_fault(struct second_pass *pass, struct alone *alone, uint64_t *number) {
     const struct contexts *contexts = &pass->second->contexts;
     uint32_t set = alone->elements[alone->depth - 1].set;
@@ -221,7 +221,8 @@ static void judge_element(struct second_pass *pass, const struct position *end) 
 
 /* Whether the fault that is known is one of the attributes of the start where it is. */
 static bool is_of_attributes(const struct answer *first) {
-    return first->reason == REASON_ATTRIBUTE || first->reason == REASON_ATTRIBUTE_VALUE || first->reason == REASON_MISSING || first->reason == REASON_ATTRIBUTES;
+    return first->reason == REASON_ATTRIBUTE || first->reason == REASON_ATTRIBUTE_VALUE || first->reason == REASON_MISSING ||
+           first->reason == REASON_ATTRIBUTES;
 }
 
 /* Marks what the fault that is known is about, at its start. An element that is not allowed there may be another one, by a wrong name. */

@@ -49,7 +49,8 @@ WORKED = (
       "4:1: hint: attribute Id is not allowed in <appendix>; expected id",
       '4:25: hint: text is not allowed in <appendix> ("t"); expected <figure>, <list>, <note>, <para> or <table>']),
     # what is behind the first fault in the same content is not told, and what is in another element is
-    ("<book>\n@x\n<no/>%<appendix/></book>", ['2:48: invalid: text is not allowed in <book> ("x\\n"); expected <chapter>', "3:62: hint: <appendix> lacks attribute id"]),
+    ("<book>\n@x\n<no/>%<appendix/></book>",
+     ['2:48: invalid: text is not allowed in <book> ("x\\n"); expected <chapter>', "3:62: hint: <appendix> lacks attribute id"]),
     # in an element that the schema does not have, those that it has are judged
     ('<book>@\n<chaptr id="c" x="y">t<title>t</title><table columns="0"/><other/></chaptr>%</book>',
      ["2:1: invalid: <chaptr> is not allowed here; expected <chapter>",
@@ -68,7 +69,8 @@ WORKED = (
       '4:7: hint: text is not allowed in <chapter> ("xy\\n"); expected <figure>, <list>, <note>, <para> or <table>']),
     # the text of an entity has the place of its reference
     ("<!DOCTYPE book [<!ENTITY e '<note/>'>]>\n<book lang='xx'>@\n<chapter id='c'><title>t</title>\n&e;</chapter></book>",
-     ['2:1: invalid: attribute lang of <book> is wrong ("xx"); expected "de", "en" or "fr"', "4:1: hint: <note> ends too early: expected <level>, <para> or <size>"]),
+     ['2:1: invalid: attribute lang of <book> is wrong ("xx"); expected "de", "en" or "fr"',
+      "4:1: hint: <note> ends too early: expected <level>, <para> or <size>"]),
     # prefixes are those around the element
     ("<p:x xmlns:p='u'/>", ["1:1: invalid: <p:x> is not allowed here; expected <book>"]),
     ("<book xmlns:v='urn:example:vocabulary' lang='xx'>@\n<chapter id='c'><title>t</title><para><em/></para></chapter></book>",
@@ -273,7 +275,8 @@ def block(chance):
 
 def book(chance):
     head = Element("head", (), [Element("title", (), ["t"]), Element("author", (), ["a"]), Element("date", (), ["2002-11-21"])])
-    chapters = [Element("chapter", {"id": f"c{number}", "kind": "draft"}, [Element("title", (), ["t"]), *(block(chance) for _ in range(chance.randrange(1, 9)))])
+    chapters = [Element("chapter", {"id": f"c{number}", "kind": "draft"},
+                        [Element("title", (), ["t"]), *(block(chance) for _ in range(chance.randrange(1, 9)))])
                 for number in range(chance.randrange(1, 6))]
     appendices = [Element("appendix", {"id": f"a{number}"}, [block(chance)]) for number in range(chance.randrange(3))]
     return Element("book", {"lang": "en"}, [head, *chapters, *appendices])
