@@ -51,6 +51,8 @@ FILES = {
     "unsound.rnc": 'element a { attribute x | y { xsd:NCName { minLength = "000000001" } } }\n# rncv-profile: 1 ID-type marked, see unsound.profile.txt\n',
     "ids.xml": '<a x="p"><b y="p"/></a>\n', "noid.xml": '<a xmlns:q="u" x="p"><b y="r"/></a>\n', "noids.xml": '<a x="p"/>\n',
     "types.rnc": 'element a { attribute x { xsd:int { minInclusive = "1" maxExclusive = "9" } }, (xsd:QName | xsd:ENTITIES) }\n', "types.xml": '<a x="5">p:q</a>\n',
+    "hints.rnc": 'element a { attribute x { "1" }?, element b { attribute y { xsd:int }, element c { empty } }* }\n',
+    "hints.xml": '<a x="2" xmlns:p="u">\n<b y="z">1</b>\n<b y="3"><p:d/></b><e/></a>\n',
     "list": "good.xml\nbad.xml\n", "zeros": "good.xml\0none.xml\0", "large.xml": "<a>" + "<!-- some words -->\n" * 15_000 + "<b/></a>\n",
 }
 # What libxml2 writes to standard error where it has no memory for the values of a thread. Whether a thread has a document to read is a matter of time.
@@ -66,6 +68,8 @@ CASES = (
     (0, "rncv-xml -j1 --all s.rnc good.xml"),
     (1, "rncv-xml -j1 --all t.rnc bad.xml attribute.xml"),
     (1, "rncv-xml -j1 --all i.rnc text.xml"),
+    (1, "rncv-xml -j1 --all hints.rnc hints.xml"),
+    (1, "rncv-xml -j1 --format json hints.rnc hints.xml"),
     (2, "rncv-xml -j1 --all e.rnc cut.xml clause.xml"),
     (2, "rncv-xml -j1 --all e.rnc dtd.xml outside.xml"),
     (1, "rncv-xml -j1 --format json t.rnc good.xml bad.xml"),
@@ -108,18 +112,19 @@ CASES = (
 
 
 def results_of(words, out):
-    """The results that were printed, a file, a verdict and a message each. None: the output is no output of this format."""
+    """The results that were printed, a file, a verdict and a message each, without hints, which may be fewer. None: the output is no output of this format."""
     try:
         if "json" in words:
             found = [json.loads(line) for line in out.splitlines()]
             return [(each["file"], each["verdict"], each.get("message", "")) for each in found]
         if "sarif" in words:
             found = json.loads(out)["runs"][0]["results"] if out else []
-            return [(each["locations"][0]["physicalLocation"]["artifactLocation"]["uri"], each["ruleId"], each["message"]["text"]) for each in found]
+            return [(each["locations"][0]["physicalLocation"]["artifactLocation"]["uri"], each["ruleId"], each["message"]["text"]) for each in found
+                    if each["ruleId"] != "hint"]
     except (ValueError, KeyError):
         return None
     pattern = GITHUB if "github" in words else TEXT
-    found = [pattern.fullmatch(line) for line in out.decode().splitlines()]
+    found = [pattern.fullmatch(line) for line in out.decode().splitlines() if ": hint: " not in line]
     return None if None in found else [(each["file"], each["verdict"] or VERDICTS[each["message"] == "valid"], each["message"]) for each in found]
 
 

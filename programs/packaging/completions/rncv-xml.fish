@@ -20,6 +20,7 @@ complete -c rncv-xml -l strict-profile -d 'Refuse a schema that rncv-profile loo
 complete -c rncv-xml -l all -d 'A line for each document'
 complete -c rncv-xml -s v -l verbose -d 'The same, with a closing line'
 complete -c rncv-xml -s q -l quiet -d 'Nothing but the exit status'
+complete -c rncv-xml -l max-faults -x -d 'The most faults that are told of a document'
 complete -c rncv-xml -l format -x -a 'text json sarif github' -d 'The form of what is printed'
 complete -c rncv-xml -l color -x -a 'auto always never' -d 'When to colour'
 complete -c rncv-xml -l source -d 'Show the line of each fault'

@@ -28,7 +28,7 @@
 (put 'rncv-schema 'safe-local-variable #'stringp)
 
 (add-to-list 'compilation-error-regexp-alist-alist
-             '(rncv "^\\(.+?\\):\\([0-9]+\\):\\([0-9]+\\): \\(?:\\(note:\\)\\|.\\)" 1 2 3 (nil . 4)))
+             '(rncv "^\\(.+?\\):\\([0-9]+\\):\\([0-9]+\\): \\(?:\\(note:\\|hint:\\)\\|.\\)" 1 2 3 (nil . 4)))
 
 (define-compilation-mode rncv-mode "rncv"
   "What rncv-xml tells of a document."

@@ -58,6 +58,13 @@ static void await(struct declared *declared, struct waiting *waiting, struct par
     }
 }
 
+static void add_number(struct waiting *waiting, struct declared_list *list, uint32_t number) {
+    waiting->failed |= !items_grow((void **)&list->lines, list->count, &list->capacity, sizeof *list->lines);
+    if (!waiting->failed) {
+        list->lines[list->count++] = number;
+    }
+}
+
 /* Adds an attribute to a list, or awaits what a pattern consists of. */
 static void look_at(struct declared *declared, uint32_t number, struct waiting *waiting, struct declared_list *list) {
     const struct form_line line = declared->form.patterns[number];
@@ -65,11 +72,17 @@ static void look_at(struct declared *declared, uint32_t number, struct waiting *
         await(declared, waiting, line.one);
         await(declared, waiting, line.other);
     } else if (line.kind == LINE_ATTRIBUTE) {
-        waiting->failed |= !items_grow((void **)&list->lines, list->count, &list->capacity, sizeof *list->lines);
-        if (!waiting->failed) {
-            list->lines[list->count++] = number;
-        }
+        add_number(waiting, list, number);
     }
+}
+
+/* Whether an element is looked at, and has the name. */
+static bool is_asked(struct declared *declared, uint32_t number, const struct event_name *name) {
+    bool is_wanted = declared->only == NULL;
+    for (uint32_t at = 0; at < declared->only_count && !is_wanted; at++) {
+        is_wanted = declared->only[at] == number;
+    }
+    return is_wanted && form_class_has(&declared->form, declared->form.elements[number].class, name->uri, name->local);
 }
 
 void declared_find(struct declared *declared, const struct event_name *element, struct declared_list *list) {
@@ -77,7 +90,7 @@ void declared_find(struct declared *declared, const struct event_name *element, 
     memset(list, 0, sizeof *list);
     begin_search(declared);
     for (uint32_t at = 0; at < declared->form.element_count; at++) {
-        if (form_class_has(&declared->form, declared->form.elements[at].class, element->uri, element->local)) {
+        if (is_asked(declared, at, element)) {
             list->is_known = true;
             await(declared, &waiting, declared->form.elements[at].one);
         }
@@ -86,6 +99,33 @@ void declared_find(struct declared *declared, const struct event_name *element, 
         look_at(declared, waiting.numbers[--waiting.count], &waiting, list);
     }
     list->is_known = list->is_known && !waiting.failed && !declared->form.is_strange;
+    free(waiting.numbers);
+}
+
+/* Adds an element to a list, or awaits a pattern. */
+static void mention(struct declared *declared, struct part part, struct waiting *waiting, struct declared_list *list) {
+    struct form_line *line = part.kind == PART_ELEMENT ? &declared->form.elements[part.number] : NULL;
+    if (line == NULL) {
+        await(declared, waiting, part);
+    } else if (line->seen / 2 != declared->time) {
+        line->seen = 2 * declared->time;
+        add_number(waiting, list, part.number);
+    }
+}
+
+void declared_elements(struct declared *declared, struct part part, struct declared_list *list) {
+    struct waiting waiting = {NULL, 0, 0, false};
+    memset(list, 0, sizeof *list);
+    begin_search(declared);
+    mention(declared, part, &waiting, list);
+    while (waiting.count > 0 && !waiting.failed && form_step(&declared->form)) {
+        const struct form_line line = declared->form.patterns[waiting.numbers[--waiting.count]];
+        if (line.kind == LINE_JOINED || line.kind == LINE_REPETITION) {
+            mention(declared, line.one, &waiting, list);
+            mention(declared, line.other, &waiting, list);
+        }
+    }
+    list->is_known = !waiting.failed && !declared->form.is_strange;
     free(waiting.numbers);
 }
 
@@ -137,8 +177,7 @@ bool declared_requires(struct declared *declared, const struct event_name *eleme
     bool is_required = true;
     begin_search(declared);
     for (uint32_t at = 0; at < declared->form.element_count && is_required; at++) {
-        const struct form_line *here = &declared->form.elements[at];
-        is_required = !form_class_has(&declared->form, here->class, element->uri, element->local) || part_requires(declared, here->one, line, 0);
+        is_required = !is_asked(declared, at, element) || part_requires(declared, declared->form.elements[at].one, line, 0);
     }
     return is_required && !declared->form.is_strange;
 }

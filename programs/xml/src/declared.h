@@ -10,6 +10,8 @@ struct declared {
     uint8_t *text;
     struct form form;
     uint32_t time; /* of the last search */
+    const uint32_t *only; /* the elements that are looked at, by their numbers; NULL: all */
+    uint32_t only_count;
     bool is_tried;
     bool is_there;
 };
@@ -27,6 +29,9 @@ void declared_close(struct declared *declared);
 
 /* Finds the attributes of the elements with a name. Free the list in each case. */
 void declared_find(struct declared *declared, const struct event_name *element, struct declared_list *list);
+
+/* Finds the elements that a part mentions, each once, by their numbers. */
+void declared_elements(struct declared *declared, struct part part, struct declared_list *list);
 void declared_list_free(struct declared_list *list);
 
 /* Whether a line of an attribute has the name. */

@@ -11,6 +11,7 @@ struct event_log {
     size_t uri; /* where the last URI is among the bytes, and .. */
     size_t uri_length;
     bool is_full; /* no more are kept */
+    size_t most;  /* the most bytes that it has; 0: LOG_BYTES */
 };
 
 void event_log_add_declarations(struct event_log *log, const struct start_event *start);

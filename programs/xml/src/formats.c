@@ -13,7 +13,7 @@ void add_text(struct bytes *line, const struct result *result, bool has_color) {
         bytes_format(line, ":%" PRIu64 ":%" PRIu64, result->place.line, result->place.column);
     }
     bytes_add_text(line, has_color ? ":\033[0m " : ": ");
-    bytes_add_text(line, !has_color ? "" : is_good ? "\033[32m" : "\033[31m");
+    bytes_add_text(line, !has_color ? "" : is_good ? "\033[32m" : result->is_note ? "\033[33m" : "\033[31m");
     bytes_add_text(line, is_good ? result->verdict : result->message);
     bytes_add_text(line, has_color ? "\033[0m\n" : "\n");
     bytes_add_text(line, result->source == NULL ? "" : result->source);
@@ -85,18 +85,16 @@ static void add_notes(struct bytes *line, const struct result *result) {
     bytes_add_text(line, result->note_count > 0 || result->schema_note[0] != '\0' ? "]" : "");
 }
 
-/* Adds what was expected, as an array. */
+/* Adds what was expected, as an array. If memory ran out for it, it is left out. */
 static void add_expected(struct bytes *line, const struct answer *answer) {
     const char *at = answer->expected.data;
-    if (answer->expected_count > 0) {
-        bytes_add_text(line, ", \"expected\": [");
-    }
-    for (size_t index = 0; index < answer->expected_count; index++) {
-        bytes_add_text(line, index == 0 ? "" : ", ");
+    size_t count = answer->expected.failed ? 0 : answer->expected_count;
+    for (size_t index = 0; index < count; index++) {
+        bytes_add_text(line, index == 0 ? ", \"expected\": [" : ", ");
         add_string(line, at, strlen(at), false);
         at += strlen(at) + 1;
     }
-    bytes_add_text(line, answer->expected_count > 0 ? "]" : "");
+    bytes_add_text(line, count > 0 ? "]" : "");
 }
 
 static void add_bytes_member(struct bytes *line, const char *name, const struct bytes *text) {
@@ -118,19 +116,39 @@ static void add_reason(struct bytes *line, const struct answer *answer, const ch
     }
 }
 
-void add_json(struct bytes *line, const struct result *result) {
+/* Adds what is at the place. */
+static void add_at(struct bytes *line, enum stands at, const struct bytes *name) {
     static const char *const stands[] = {"unknown", "element", "attribute", "text", "end"};
+    if (at != STANDS_NOT_KNOWN && name != NULL) {
+        add_member(line, "at", stands[at]);
+        bytes_add_text(line, ", \"name\": ");
+        add_string(line, name->data, name->length, false);
+    }
+}
+
+/* Adds an array of the hints, if there is one. */
+static void add_hints(struct bytes *line, const struct answer *answer) {
+    size_t count = answer == NULL ? 0 : answer->hint_count;
+    for (size_t at = 0; at < count; at++) {
+        struct answer *hint = &answer->hints[at];
+        bytes_add_text(line, at == 0 ? ", \"hints\": [" : ", ");
+        bytes_format(line, "{\"line\": %" PRIu64 ", \"column\": %" PRIu64, hint->place.line, hint->place.column);
+        add_at(line, hint->stands, &hint->name);
+        add_member(line, "message", bytes_text(&hint->message));
+        add_reason(line, hint, ", ");
+        bytes_add_byte(line, '}');
+    }
+    bytes_add_text(line, count > 0 ? "]" : "");
+}
+
+void add_json(struct bytes *line, const struct result *result) {
     bytes_add_text(line, "{\"file\": ");
     add_string(line, result->file, strlen(result->file), true);
     add_member(line, "verdict", result->verdict);
     if (result->place.line > 0) {
         bytes_format(line, ", \"line\": %" PRIu64 ", \"column\": %" PRIu64, result->place.line, result->place.column);
     }
-    if (result->stands != STANDS_NOT_KNOWN && result->name != NULL) {
-        add_member(line, "at", stands[result->stands]);
-        bytes_add_text(line, ", \"name\": ");
-        add_string(line, result->name->data, result->name->length, false);
-    }
+    add_at(line, result->stands, result->name);
     if (result->group != 0) {
         bytes_format(line, ", \"clause\": \"%c%d\"", result->group, result->clause);
     }
@@ -138,6 +156,7 @@ void add_json(struct bytes *line, const struct result *result) {
         add_member(line, "message", result->message);
     }
     add_reason(line, result->answer, ", ");
+    add_hints(line, result->answer);
     add_notes(line, result);
     bytes_add_text(line, "}\n");
 }
@@ -186,13 +205,14 @@ static void add_uri(struct bytes *line, const char *path) {
     bytes_add_byte(line, '"');
 }
 
-void add_sarif_head(struct bytes *line) {
+void add_sarif_head(struct bytes *line, bool has_hints) {
     static const char *const rules[] = {"invalid", "malformed", "outside", "failed", "refused", "note"};
     bytes_add_text(line, "{\"version\": \"2.1.0\", \"$schema\": \"https://json.schemastore.org/sarif-2.1.0.json\", \"runs\": [{\"tool\": "
                          "{\"driver\": {\"name\": \"rncv-xml\", \"version\": \"" PROGRAM_VERSION "\", \"rules\": [");
     for (size_t at = 0; at < sizeof rules / sizeof *rules; at++) {
         bytes_format(line, "%s{\"id\": \"%s\"}", at == 0 ? "" : ", ", rules[at]);
     }
+    bytes_add_text(line, has_hints ? ", {\"id\": \"hint\"}" : "");
     bytes_add_text(line, "]}}, \"columnKind\": \"unicodeCodePoints\", \"results\": [");
 }
 

@@ -14,7 +14,7 @@ struct result {
     const struct bytes *name; /* of what is at the place; may be NULL */
     char group;               /* of the clause; 0: there is none */
     int clause;
-    bool is_note; /* it is no fault */
+    bool is_note; /* it is no fault, or a hint */
     struct note *notes;
     size_t note_count;
     const char *schema_note; /* what the schema's file says about the schema; empty if that is nothing */
@@ -31,9 +31,9 @@ void add_json(struct bytes *line, const struct result *result);
 /* A command of GitHub's workflows. */
 void add_github(struct bytes *line, const struct result *result);
 
-/* A result of SARIF, and what comes before the first one and after the last one. */
+/* A result of SARIF, and what comes before the first one and after the last one. `has_hints`: there may be hints. */
 void add_sarif(struct bytes *line, const struct result *result, bool is_first);
-void add_sarif_head(struct bytes *line);
+void add_sarif_head(struct bytes *line, bool has_hints);
 void add_sarif_tail(struct bytes *line, bool is_successful);
 
 #endif

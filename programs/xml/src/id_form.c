@@ -232,12 +232,14 @@ static struct part read_braced(struct form *form) {
 
 /* What is after `=` in the line of a pattern or an element. */
 static struct form_line read_line(struct form *form) {
-    struct form_line line = {{0, PART_PLAIN, ID_NONE, false}, {0, PART_PLAIN, ID_NONE, false}, NO_CLASS, 0, LINE_JOINED, '\0', form->token.at, 0};
+    struct form_line line = {{0, PART_PLAIN, ID_NONE, false}, {0, PART_PLAIN, ID_NONE, false}, NO_CLASS, 0, LINE_JOINED, '\0', form->token.at, 0, 0, 0};
     bool is_element = is_word(&form->token, "element");
     if (is_element || is_word(&form->token, "attribute")) {
         line.kind = is_element ? LINE_ELEMENT : LINE_ATTRIBUTE;
         advance(form);
+        line.class_from = form->token.at;
         line.class = read_class(form, 0);
+        line.class_to = form->token.at;
         line.one = read_braced(form);
     } else if (is_word(&form->token, "list")) {
         line.kind = LINE_LIST;
@@ -314,9 +316,10 @@ static void read_form(struct form *form) {
         is_strange(form);
         return;
     }
+    form->start = form->token.at;
     advance(form);
     wants(form, '=');
-    read_part(form);
+    form->root = read_part(form);
     while (form->token.kind != TOKEN_NONE && form_step(form)) {
         read_item(form);
     }
@@ -327,7 +330,8 @@ static void read_form(struct form *form) {
 
 /* Whether all that is mentioned has a line. */
 static bool is_complete(const struct form *form) {
-    bool is_good = true;
+    bool is_good = (form->root.kind != PART_ELEMENT || form->root.number < form->element_count) &&
+                   (form->root.kind != PART_PATTERN || form->root.number < form->pattern_count);
     for (uint32_t at = 0; at < form->element_count + form->pattern_count && is_good; at++) {
         const struct form_line *line = at < form->element_count ? &form->elements[at] : &form->patterns[at - form->element_count];
         const struct part *parts[] = {&line->one, &line->other};

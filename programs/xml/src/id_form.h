@@ -34,6 +34,8 @@ struct form_line {
     char sign;      /* of a joined one */
     size_t from;    /* in the text: what is in the braces of an element or an attribute, and else what is after `=` */
     size_t to;
+    size_t class_from; /* the class of an element or an attribute */
+    size_t class_to;
 };
 
 enum class_kind { CLASS_ONE_NAME, CLASS_NAMESPACE, CLASS_ALL, CLASS_ONE_OF };
@@ -52,6 +54,8 @@ struct form {
     struct token token;   /* the next one */
     size_t length;        /* of the text */
     size_t from, to;      /* what was in braces last */
+    size_t start;         /* where the line of the start is, after those of the namespaces */
+    struct part root;     /* what is in it */
     struct bytes uris;    /* it never moves */
     struct span *prefixes; /* n0, n1, .. */
     struct form_line *elements;

@@ -1,6 +1,7 @@
 #include "judging.h"
 
 #include "probes.h"
+#include "second_reading.h"
 
 #include <inttypes.h>
 #include <stdlib.h>
@@ -20,6 +21,7 @@ struct judging {
     struct finding found; /* where the document is invalid, if that is known */
     rncv_verdict verdict;
     uint64_t number; /* of the starts and ends that were passed: it is the place of the last one for the library */
+    uint64_t found_number; /* .. at which the document is invalid */
     bool has_tag;    /* nothing came behind the start tag whose position is kept */
     bool has_text;   /* a text is directly before what comes next, whose position is kept */
     bool is_cut;     /* no more of it is kept */
@@ -43,6 +45,7 @@ void judge_close(struct judge *judge) {
     call_room_free(&judge->room);
     bytes_free(&judge->text);
     id_check_close(&judge->ids);
+    second_free(judge->second);
 }
 
 void answer_free(struct answer *answer) {
@@ -55,6 +58,10 @@ void answer_free(struct answer *answer) {
         bytes_free(&answer->notes[at].what);
     }
     free(answer->notes);
+    for (size_t at = 0; at < answer->hint_count; at++) {
+        answer_free(&answer->hints[at]);
+    }
+    free(answer->hints);
     if (answer->earlier != NULL) {
         answer_free(answer->earlier);
         free(answer->earlier);
@@ -128,6 +135,7 @@ static bool note_finding(struct judging *judging, const struct passed *passed) {
     struct finding *found = &judging->found;
     drop_blanks(judging);
     found->is_there = true;
+    judging->found_number = judging->number;
     found->is_end = passed->is_end;
     found->has_text = judging->has_text && judge->text.length > 0;
     found->text_place = kept_place(passed->position);
@@ -418,7 +426,16 @@ static void read_named(struct judging *judging, const char *name) {
     const struct shared *shared = judging->judge->shared;
     if (source_open(&judging->source, name, shared->streams, judging->fault)) {
         read_source(judging, &(struct byte_source){read_counted, judging, shared->loads_dtd ? beside(name) : NULL});
-        source_close(&judging->source);
+    }
+}
+
+/* Adds further faults to the answer, if they are wanted and the document can be read once more. */
+static void add_hints(struct judging *judging, const char *name) {
+    const struct shared *shared = judging->judge->shared;
+    bool is_due = shared->alone != NULL && judging->answer->verdict == VERDICT_INVALID && judging->found_number > 0;
+    if (is_due && source_rewind(&judging->source)) {
+        const struct byte_source again = {source_read, &judging->source, shared->loads_dtd ? beside(name) : NULL};
+        second_reading(judging->judge, &again, judging->found_number, judging->answer);
     }
 }
 
@@ -447,6 +464,10 @@ static void judge_either(struct judge *judge, const struct byte_source *given, c
         end_document(&judging);
     }
     answer_all(&judging);
+    if (given == NULL) {
+        add_hints(&judging, name);
+        source_close(&judging.source);
+    }
     if (answer->message.failed || answer->notes_failed || answer->name.failed) {
         answer->verdict = answer->verdict == VERDICT_VALID ? VERDICT_FAILED : answer->verdict;
     }

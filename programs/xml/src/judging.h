@@ -64,14 +64,18 @@ struct answer {
     struct note *notes;
     size_t note_count;
     bool notes_failed; /* memory ran out for a note */
+    struct answer *hints; /* further faults of a document that is invalid, in the order of their places */
+    size_t hint_count;
     struct answer *earlier; /* where the document was invalid before it was malformed or outside, if the judge is asked for that; else NULL */
 };
 
 /* No verdict yet. It is not VERDICT_VALID, so nothing is valid by accident. */
 #define NO_ANSWER \
-    {VERDICT_FAILED, {0, 0}, STANDS_NOT_KNOWN, NO_BYTES, 0, REASON_NOT_KNOWN, NO_BYTES, 0, NO_BYTES, NO_BYTES, NO_BYTES, NULL, 0, false, NULL}
+    {VERDICT_FAILED, {0, 0}, STANDS_NOT_KNOWN, NO_BYTES, 0, REASON_NOT_KNOWN, NO_BYTES, 0, NO_BYTES, NO_BYTES, NO_BYTES, NULL, 0, false, NULL, 0, NULL}
 
 struct jobs;
+struct alone_schemas;
+struct second;
 
 /* What all judges share. */
 struct shared {
@@ -88,6 +92,8 @@ struct shared {
     bool is_strict;    /* a document with a note is outside the profile */
     bool wants_earlier; /* an answer that is malformed or outside also says where the document was invalid before */
     bool loads_dtd;    /* external DTDs and entities are read, from files */
+    struct alone_schemas *alone; /* what judges an element alone, for hints; NULL: none are wanted */
+    size_t most_faults; /* with the hints, if they are wanted */
     struct jobs *jobs; /* the jobs that the threads work on; NULL for one thread */
     void (*tick)(void *context); /* is called now and then while a document is read */
     void *context;
@@ -102,6 +108,7 @@ struct judge {
     struct call_room room;
     struct bytes text; /* the first characters of the text that is being read, with no blanks before them if it has more than these (`is_cut`) */
     struct id_check ids;
+    struct second *second; /* what hints need, once a document was invalid; NULL: nothing yet */
 };
 
 /* False: out of memory. */

@@ -18,6 +18,7 @@ enum name {
     NAME_VERBOSE,
     NAME_QUIET,
     NAME_DTD,
+    NAME_MAX_FAULTS,
     NAME_MAX_DEPTH,
     NAME_MAX_MEMORY,
     NAME_NO_IDS,
@@ -54,6 +55,7 @@ static const struct option known[] = {
     {"--verbose", 'v', false, NAME_VERBOSE},
     {"--quiet", 'q', false, NAME_QUIET},
     {"--dtd", 0, false, NAME_DTD},
+    {"--max-faults", 0, true, NAME_MAX_FAULTS},
     {"--max-depth", 0, true, NAME_MAX_DEPTH},
     {"--max-memory", 0, true, NAME_MAX_MEMORY},
     {"--no-ids", 0, false, NAME_NO_IDS},
@@ -99,6 +101,7 @@ const char *options_help(void) {
            "      --all            a line for each document, `FILE: valid` too\n"
            "  -v, --verbose        the same, with the files of the schema and a closing line\n"
            "  -q, --quiet          print nothing but failures; the exit status says the rest\n"
+           "      --max-faults N   tell N faults of an invalid document at most: the first, and hints about others (else 20)\n"
            "      --format FORMAT  text, json (an object a line, for each document), sarif or github\n"
            "      --color WHEN     auto, always or never; NO_COLOR is respected\n"
            "      --source         show the line of each fault, with a mark below (else on a terminal)\n"
@@ -106,7 +109,8 @@ const char *options_help(void) {
            "  -h, --help           this text\n"
            "      --version        the version\n"
            "\n"
-           "A line is `FILE:LINE:COLUMN: invalid: ..`, with what is wrong and what was expected; a valid document has no line.\n"
+           "A line is `FILE:LINE:COLUMN: invalid: ..`, with what is wrong and what was expected; a valid document has no line. Lines with\n"
+           "`hint:` behind it tell further faults, if the document is a file.\n"
            "Exit status, the greatest of: 0 all valid; 1 some invalid; 2 some malformed or outside the profile; 3 the schema is refused;\n"
            "4 a file or a device failed; 5 wrong words. 130 after Ctrl-C, 141 if the output is a closed pipe.\n"
            "`man rncv-xml` has more. `man rncv` is about the proved program.\n";
@@ -168,6 +172,16 @@ static bool take_size(struct options *options, const char *value, bool has_unit,
         return is_wrong(options, has_unit ? "--max-memory wants a size as 64M, and not '%s'" : "--max-depth wants a number, and not '%s'", value);
     }
     *size = number > (unsigned long long)(SIZE_MAX / 4) >> shift ? SIZE_MAX / 4 : (size_t)number << shift;
+    return true;
+}
+
+static bool take_faults(struct options *options, const char *value) {
+    char *end;
+    unsigned long number = value[0] < '0' || value[0] > '9' ? 0 : strtoul(value, &end, 10);
+    if (number == 0 || number > MOST_FAULTS || *end != '\0') {
+        return is_wrong(options, "--max-faults wants a number from 1 to 1000, and not '%s'", value);
+    }
+    options->most_faults = (size_t)number;
     return true;
 }
 
@@ -237,6 +251,8 @@ static bool take_value(struct options *options, enum name name, const char *valu
     case NAME_MOST_FILES:
         options->most_files = (size_t)strtoul(value, NULL, 10);
         return true;
+    case NAME_MAX_FAULTS:
+        return take_faults(options, value);
     case NAME_MAX_DEPTH:
         return take_size(options, value, false, &options->depth);
     case NAME_MAX_MEMORY:
@@ -382,6 +398,7 @@ bool options_read(struct options *options, int count, char **words) {
     memset(options, 0, sizeof *options);
     options->input_name = "-";
     options->datatypes = RNCV_DATATYPES_XML_SCHEMA;
+    options->most_faults = USUAL_FAULTS;
     bool is_good = read_sides(options, count, words, &sides);
     is_good = is_good && (options->wants_help || options->wants_version || (part_words(options, &sides) && is_sound(options)));
     free(sides.list[0]);

@@ -3,6 +3,7 @@
 #include <errno.h>
 #include <fcntl.h>
 #include <string.h>
+#include <sys/stat.h>
 #include <unistd.h>
 
 volatile sig_atomic_t bar_is_shown = 0;
@@ -101,7 +102,7 @@ void output_flush(struct output *output) {
 }
 
 bool source_open(struct source *source, const char *name, struct streams streams, struct fault *fault) {
-    *source = (struct source){0, true, strcmp(name, "-") == 0};
+    *source = (struct source){0, true, strcmp(name, "-") == 0, 0};
     if (source->is_input && streams.input_is_closed) {
         fault_set(fault, FAULT_DEVICE, (struct place){0, 0}, "standard input is closed");
         source->is_open = false;
@@ -110,6 +111,8 @@ bool source_open(struct source *source, const char *name, struct streams streams
     if (!source->is_input) {
         source->file = open(name, O_RDONLY | O_CLOEXEC | O_NOCTTY);
         source->is_open = source->file >= 0;
+    } else {
+        source->begin = (int64_t)lseek(0, 0, SEEK_CUR);
     }
     if (!source->is_open) {
         fault_set(fault, FAULT_DEVICE, (struct place){0, 0}, "%s", strerror(errno));
@@ -130,6 +133,12 @@ bool source_read(void *context, char *bytes, size_t size, size_t *length, struct
     }
     *length = (size_t)count;
     return true;
+}
+
+bool source_rewind(struct source *source) {
+    struct stat found;
+    bool is_file = source->is_open && source->begin >= 0 && fstat(source->file, &found) == 0 && S_ISREG(found.st_mode);
+    return is_file && lseek(source->file, (off_t)source->begin, SEEK_SET) == (off_t)source->begin;
 }
 
 void source_close(struct source *source) {

@@ -6,6 +6,7 @@
 #include "conversion.h"
 
 #include <signal.h>
+#include <stdint.h>
 
 #define PROGRAM_VERSION "0.9.0"
 
@@ -55,11 +56,14 @@ struct source {
     int file;
     bool is_open;
     bool is_input;
+    int64_t begin; /* where standard input begins, if it is a file */
 };
 
 /* False: the fault says why. */
 bool source_open(struct source *source, const char *name, struct streams streams, struct fault *fault);
 bool source_read(void *source, char *bytes, size_t size, size_t *length, struct fault *fault);
+/* Goes back to where the document begins. False: it is no file, or that failed. */
+bool source_rewind(struct source *source);
 void source_close(struct source *source);
 
 /* The path beside which the files are that a document of this name mentions. Those of standard input are in the current folder. */

@@ -36,7 +36,7 @@ void report_open(struct report *report, const struct options *options, struct ou
     report->has_color = wants_color(options);
     report->has_source = wants_source(options) && !options->is_quiet;
     if (options->format == FORMAT_SARIF && !options->is_quiet) {
-        add_sarif_head(&output->waiting);
+        add_sarif_head(&output->waiting, options->most_faults > 1);
     }
 }
 
@@ -87,6 +87,26 @@ static void put_note(struct report *report, const char *file, struct place place
     }
 }
 
+/* Prints a result with the line of the document, if that is wanted. Standard input cannot be read again for it. */
+static void put_with_source(struct report *report, const char *name, struct result *result) {
+    struct bytes source = NO_BYTES;
+    if (report->has_source && result->message[0] != '\0' && strcmp(name, "-") != 0) {
+        add_source_line(&source, name, result->place);
+        result->source = bytes_text(&source);
+    }
+    put(report, result);
+    bytes_free(&source);
+}
+
+/* Prints a hint behind the fault of its document. An object of JSON has the hints in it. */
+static void put_hint(struct report *report, const char *name, const char *file, struct answer *hint) {
+    struct result result = {.file = file, .verdict = "hint", .message = bytes_text(&hint->message), .place = hint->place, .is_note = true, .schema_note = "",
+                            .answer = hint};
+    if (report->options->format != FORMAT_JSON && !hint->message.failed) {
+        put_with_source(report, name, &result);
+    }
+}
+
 void report_answer(struct report *report, const char *name, struct answer *answer) {
     const char *file = strcmp(name, "-") == 0 ? report->options->input_name : name;
     const char *message = bytes_text(&answer->message);
@@ -95,11 +115,6 @@ void report_answer(struct report *report, const char *name, struct answer *answe
     }
     struct result result = {file, verdicts[answer->verdict], message, answer->place, answer->stands, &answer->name, answer->clause == 0 ? 0 : 'P',
                             answer->clause, false, answer->notes, answer->note_count, bytes_text(&report->schema_note), answer, ""};
-    struct bytes source = NO_BYTES;
-    if (report->has_source && answer->verdict != VERDICT_VALID && strcmp(name, "-") != 0) {
-        add_source_line(&source, name, answer->place);
-        result.source = bytes_text(&source);
-    }
     int status = status_of(answer->verdict);
     report->counts[answer->verdict]++;
     report->status = status > report->status ? status : report->status;
@@ -108,9 +123,11 @@ void report_answer(struct report *report, const char *name, struct answer *answe
         for (size_t at = 0; at < answer->note_count; at++) {
             put_note(report, file, answer->notes[at].place, bytes_text(&answer->notes[at].what));
         }
-        put(report, &result);
+        put_with_source(report, name, &result);
+        for (size_t at = 0; at < answer->hint_count; at++) {
+            put_hint(report, name, file, &answer->hints[at]);
+        }
     }
-    bytes_free(&source);
     progress_tick(report->progress);
 }
 

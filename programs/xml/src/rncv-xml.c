@@ -1,4 +1,5 @@
 /* rncv-xml: judges XML documents by a RELAX NG schema. */
+#include "alone_schema.h"
 #include "clause_page.h"
 #include "jobs.h"
 #include "schema_context.h"
@@ -329,6 +330,21 @@ static unsigned jobs_of(const struct options *options) {
     return processors < 1 ? 1 : processors > MOST_JOBS ? MOST_JOBS : (unsigned)processors;
 }
 
+/* Judges the documents by the schema, which is compiled. */
+static void judge_documents(struct report *report, struct shared *shared, struct documents *documents) {
+    struct alone_schemas alone;
+    bool has_hints = report->options->most_faults > 1 && !report->options->is_quiet;
+    bool is_open = has_hints && alone_schemas_open(&alone, report->options->datatypes);
+    shared->most_faults = report->options->most_faults;
+    shared->alone = is_open ? &alone : NULL;
+    if (!jobs_run(documents, shared, report, jobs_of(report->options))) {
+        report_failure(report, "out of memory", STATUS_FAILED);
+    }
+    if (is_open) {
+        alone_schemas_close(&alone);
+    }
+}
+
 static void judge_all(struct report *report, struct shared *shared, struct documents *documents) {
     struct schema_files files;
     struct id_types *types = NULL;
@@ -339,9 +355,7 @@ static void judge_all(struct report *report, struct shared *shared, struct docum
         if (report->options->is_verbose) {
             report_files(report, &files);
         }
-        if (!jobs_run(documents, shared, report, jobs_of(report->options))) {
-            report_failure(report, "out of memory", STATUS_FAILED);
-        }
+        judge_documents(report, shared, documents);
         if (report->options->document_count == 0 && report->options->files_from == NULL) {
             report_note(report, "rncv-xml: the schema is good; no document is named");
         } else {

@@ -96,7 +96,7 @@ class Cases(Merged):
         self.files(main='namespace p = "u" start = element a { grammar { include "b.rnc" inherit = p { b = parent c } }, grammar { include "b.rnc" } } '
                         'c = element c { empty }', b="start = b | element b { empty } b = element b { grammar { start = parent b } }?")
         (out, _), _ = self.same(1)
-        self.assertNotIn("hint", out)
+        self.assertNotIn("see docs", out)
 
     def test_what_stays(self):
         self.files(main='include "b.rnc" include "c.rnc" start = a | external "d.rnc" | p | c', b='include "e.rnc" a = external "e.rnc"',

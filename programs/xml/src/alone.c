@@ -1,0 +1,343 @@
+#include "alone.h"
+
+#include "probes.h"
+#include "text_table.h"
+#include "xml_names.h"
+
+#include <stdio.h>
+#include <stdlib.h>
+
+enum {
+    ELEMENT_BYTES = 67108864, /* of one element, at most */
+    TEXT_BYTES = 512,         /* kept of a text beside child elements, and told of any */
+    KEPT_BYTES = 65536        /* room that is used again */
+};
+
+/* ---- what is in an element */
+
+void element_begin(struct element *element, const struct start_event *start, struct mark mark) {
+    if (element->log.bytes.capacity > KEPT_BYTES || element->text.capacity > KEPT_BYTES || element->text.failed) {
+        event_log_free(&element->log);
+        bytes_free(&element->text);
+    }
+    event_log_clear(&element->log);
+    bytes_clear(&element->text);
+    element->log.most = ELEMENT_BYTES;
+    element->count = 0;
+    element->place = mark.place;
+    element->number = mark.number;
+    element->has_declarations = start->declaration_count > 0;
+    element->has_children = false;
+    element->is_empty = true;
+    element->is_begun = false;
+    element->is_cut = false;
+    element->is_left = false;
+    element->is_done = false;
+    event_log_declarations(&element->log, start);
+    event_log_start(&element->log, start);
+    element->failed = element->log.is_full;
+}
+
+static size_t blanks_of(struct span text) {
+    size_t at = 0;
+    while (at < text.length && is_blank_byte(text.data[at])) {
+        at++;
+    }
+    return at;
+}
+
+/* The length of the beginning of a text that has so many bytes at most, and no part of a character. */
+static size_t cut_length(struct span text, size_t most) {
+    size_t length = text.length < most ? text.length : most;
+    while (length > 0 && length < text.length && ((unsigned char)text.data[length] & 0xC0) == 0x80) {
+        length--;
+    }
+    return length;
+}
+
+/* Keeps what is shown of a text beside child elements. */
+static void keep_beginning(struct element *element, struct span text) {
+    size_t begin = element->text.length == 0 ? blanks_of(text) : 0;
+    struct span left = {text.data + begin, text.length - begin};
+    size_t length = element->is_cut ? 0 : cut_length(left, TEXT_BYTES - element->text.length);
+    element->is_cut |= length < left.length;
+    bytes_add(&element->text, left.data, length);
+}
+
+void element_take_text(struct element *element, const struct text_event *event) {
+    element->is_empty = false;
+    if (!element->is_begun) {
+        element->text_place = place_of(&event->position);
+        element->is_begun = blanks_of(event->text) < event->text.length;
+    }
+    if (element->has_children) {
+        keep_beginning(element, event->text);
+    } else {
+        bytes_add(&element->text, event->text.data, event->text.length);
+    }
+    element->failed |= element->text.failed;
+}
+
+static void add_mark(struct element *element, struct mark mark) {
+    element->failed |= !items_grow((void **)&element->marks, element->count, &element->capacity, sizeof mark);
+    if (!element->failed) {
+        element->marks[element->count++] = mark;
+    }
+}
+
+/* Puts the text before a child into the list. */
+static void put_text(struct element *element) {
+    struct bytes *text = &element->text;
+    if (element->is_begun) {
+        size_t begin = blanks_of((struct span){text->data, text->length});
+        struct span shown = {text->data + begin, text->length - begin};
+        shown.length = cut_length(shown, TEXT_BYTES);
+        event_log_text(&element->log, shown);
+        add_mark(element, (struct mark){element->text_place, 0});
+    }
+    text->length = 0;
+    element->is_begun = false;
+    element->is_cut = false;
+}
+
+void element_take_child(struct element *element, const struct event_name *name, struct mark mark) {
+    const struct start_event child = {.name = *name};
+    put_text(element);
+    element->has_children = true;
+    element->is_empty = false;
+    event_log_start(&element->log, &child);
+    event_log_end(&element->log);
+    add_mark(element, mark);
+    element->failed |= element->log.is_full;
+}
+
+void element_free(struct element *element) {
+    event_log_free(&element->log);
+    bytes_free(&element->text);
+    free(element->marks);
+}
+
+size_t element_held(const struct element *element) {
+    return element->log.bytes.length + element->text.length + element->count * sizeof *element->marks;
+}
+
+/* ---- whether it is good */
+
+enum { ROOT_BYTES = 16 };
+
+/* The name of the root around the element. */
+static struct event_name root_of(const struct alone *alone, char room[ROOT_BYTES]) {
+    size_t length = (size_t)snprintf(room, ROOT_BYTES, "k%u", (unsigned)alone->member);
+    return (struct event_name){{"", 0}, {room, length}, {"", 0}};
+}
+
+/* Begins a document with the root. Its number is never that of a fault. */
+static int32_t begin(const struct alone *alone) {
+    char room[ROOT_BYTES];
+    struct event_name root = root_of(alone, room);
+    int32_t status = rncv_events_begin(&alone->judge->schema);
+    return status != RNCV_DONE ? status : library_start(&alone->judge->schema, &alone->judge->room, UINT64_MAX, &root, NULL, 0);
+}
+
+/* Passes an event of the list. A start or an end gets the next number. */
+static int32_t pass(const struct alone *alone, const struct log_reader *reader, const struct logged *event, uint64_t *number) {
+    rncv_schema *schema = &alone->judge->schema;
+    if (event->kind == LOGGED_START) {
+        size_t count = alone->has_attributes ? event->count : 0;
+        return library_start(schema, &alone->judge->room, ++*number, &event->name, reader->attributes, count);
+    }
+    if (event->kind == LOGGED_TEXT) {
+        return library_text(schema, event->text);
+    }
+    return event->kind == LOGGED_END ? rncv_events_end(schema, ++*number) : RNCV_DONE;
+}
+
+static const struct element *own_of(const struct alone *alone) {
+    return &alone->elements[alone->depth - 1];
+}
+
+/* Passes the text behind the last child, if there is one. */
+static int32_t pass_text(const struct alone *alone) {
+    const struct bytes *text = &own_of(alone)->text;
+    return text->length == 0 ? RNCV_DONE : library_text(&alone->judge->schema, (struct span){text->data, text->length});
+}
+
+bool alone_find(const struct alone *alone, uint64_t *number) {
+    struct log_reader reader;
+    struct logged event;
+    uint64_t passed = 0;
+    rncv_schema *schema = &alone->judge->schema;
+    int32_t status = begin(alone);
+    log_reader_open(&reader, &own_of(alone)->log, own_of(alone)->log.bytes.length);
+    while (status == RNCV_DONE && log_reader_next(&reader, &event)) {
+        status = pass(alone, &reader, &event, &passed);
+    }
+    status = status == RNCV_DONE ? pass_text(alone) : status;
+    status = status == RNCV_DONE ? rncv_events_end(schema, ++passed) : status;
+    status = status == RNCV_DONE ? rncv_events_invalid_since(schema, number) : status;
+    bool is_known = status == RNCV_DONE && !reader.failed && *number != UINT64_MAX;
+    log_reader_close(&reader);
+    return is_known;
+}
+
+/* ---- what is wrong */
+
+/* An element that is judged again, up to the start or end that is wrong. */
+struct alone_telling {
+    const struct alone *alone;
+    struct log_reader reader;
+    struct logged event;     /* the last one */
+    struct logged start;     /* that of the element */
+    uint64_t number;         /* of starts and ends that were passed */
+    uint32_t marks;          /* of children and texts that were passed */
+    uint64_t child;          /* the number of the last child */
+    struct finding found;
+};
+
+static struct event_log *log_of(const struct alone_telling *telling) {
+    return &telling->alone->judge->log;
+}
+
+static void log_declaration(struct event_log *log, const struct event_name *name) {
+    const struct event_declaration declaration = {name->prefix, name->uri};
+    event_log_declarations(log, &(struct start_event){.declarations = &declaration, .declaration_count = 1});
+}
+
+/* Begins the log with the declarations of the elements around, and the root. False: memory ran out. */
+static bool log_around(const struct alone *alone) {
+    struct logged event;
+    char room[ROOT_BYTES];
+    bool is_good = true;
+    event_log_clear(&alone->judge->log);
+    for (size_t at = 0; at + 1 < alone->depth && is_good; at++) {
+        struct log_reader reader;
+        log_reader_open(&reader, &alone->elements[at].log, alone->elements[at].has_declarations ? alone->elements[at].log.bytes.length : 0);
+        while (log_reader_next(&reader, &event) && event.kind == LOGGED_DECLARATION) {
+            log_declaration(&alone->judge->log, &event.name);
+        }
+        is_good = !reader.failed;
+        log_reader_close(&reader);
+    }
+    event_log_start(&alone->judge->log, &(struct start_event){.name = root_of(alone, room)});
+    return is_good;
+}
+
+/* Puts the event into the log. */
+static void log_event(const struct alone_telling *telling, const struct logged *event) {
+    struct event_log *log = log_of(telling);
+    if (event->kind == LOGGED_DECLARATION) {
+        log_declaration(log, &event->name);
+    } else if (event->kind == LOGGED_TEXT) {
+        event_log_text(log, event->text);
+    } else if (event->kind == LOGGED_END) {
+        event_log_end(log);
+    } else {
+        size_t count = telling->alone->has_attributes ? event->count : 0;
+        event_log_start(log, &(struct start_event){.name = event->name, .attributes = telling->reader.attributes, .attribute_count = count});
+    }
+}
+
+/* Keeps where the event is, before it is put into the log. */
+static void keep_place(struct alone_telling *telling, const struct logged *event) {
+    const struct element *own = own_of(telling->alone);
+    struct finding *found = &telling->found;
+    bool is_own = event->kind == LOGGED_START && telling->number == 0;
+    if (event->kind == LOGGED_TEXT) {
+        found->has_text = true;
+        found->text_at = log_of(telling)->bytes.length;
+        found->text_place = own->marks[telling->marks++].place;
+        bytes_clear(&found->text);
+        bytes_add(&found->text, event->text.data, event->text.length);
+        return;
+    }
+    found->at = log_of(telling)->bytes.length;
+    if (event->kind == LOGGED_START) {
+        found->place = is_own ? own->place : own->marks[telling->marks].place;
+        telling->child = is_own ? 0 : own->marks[telling->marks].number;
+        telling->marks += !is_own;
+    }
+}
+
+/* Passes the next event up to the one with this number. False: that one was passed, or something failed. */
+static bool go_on(struct alone_telling *telling, uint64_t number) {
+    struct logged *event = &telling->event;
+    if (telling->number == number || !log_reader_next(&telling->reader, event)) {
+        return false;
+    }
+    if (telling->number > 0 && event->kind == LOGGED_END) {
+        telling->found.has_text = false;
+    }
+    keep_place(telling, event);
+    log_event(telling, event);
+    telling->start = telling->number == 0 ? *event : telling->start;
+    return pass(telling->alone, &telling->reader, event, &telling->number) == RNCV_DONE;
+}
+
+/* Passes the end of the element, and the text before it. */
+static bool pass_end(struct alone_telling *telling) {
+    const struct element *own = own_of(telling->alone);
+    struct finding *found = &telling->found;
+    found->text_at = log_of(telling)->bytes.length;
+    if (own->text.length > 0) {
+        size_t begin = blanks_of((struct span){own->text.data, own->text.length});
+        struct span shown = {own->text.data + begin, own->text.length - begin};
+        size_t length = cut_length(shown, TEXT_BYTES);
+        found->has_text = own->is_begun;
+        found->is_cut = own->is_cut || length < shown.length;
+        found->text_place = own->text_place;
+        bytes_clear(&found->text);
+        bytes_add(&found->text, shown.data, length);
+        event_log_text(log_of(telling), (struct span){own->text.data, own->text.length});
+    }
+    found->is_end = true;
+    found->place = own->is_empty ? own->place : place_of(telling->alone->end);
+    found->at = log_of(telling)->bytes.length;
+    event_log_end(log_of(telling));
+    return pass_text(telling->alone) == RNCV_DONE && rncv_events_end(&telling->alone->judge->schema, ++telling->number) == RNCV_DONE;
+}
+
+static void set_name(struct finding *found, const struct event_name *name) {
+    bytes_add(&found->name, name->prefix.data, name->prefix.length);
+    bytes_add_text(&found->name, name->prefix.length > 0 ? ":" : "");
+    bytes_add(&found->name, name->local.data, name->local.length);
+    bytes_add(&found->expanded, name->uri.data, name->uri.length);
+    bytes_add(&found->expanded, name->local.data, name->local.length);
+    found->uri_length = name->uri.length;
+}
+
+/* Passes all up to the start or end with this number, and notes what is there. False: memory ran out, or it is the end of a child, which has nothing in it. */
+static bool find_again(struct alone_telling *telling, uint64_t number) {
+    struct finding *found = &telling->found;
+    bool is_good = log_around(telling->alone) && begin(telling->alone) == RNCV_DONE;
+    while (is_good && go_on(telling, number)) {
+    }
+    bool is_start = telling->number == number && telling->event.kind == LOGGED_START;
+    bool is_end = is_good && telling->number + 1 == number && pass_end(telling);
+    if (telling->reader.failed || (!is_start && !is_end)) {
+        return false;
+    }
+    found->is_there = true;
+    found->text_at = found->has_text || is_end ? found->text_at : found->at;
+    found->is_kept = !log_of(telling)->is_full && !log_of(telling)->bytes.failed;
+    set_name(found, is_start ? &telling->event.name : &telling->start.name);
+    return expected_get(&telling->alone->judge->schema, &found->expected) && !found->name.failed && !found->expanded.failed && !found->text.failed;
+}
+
+static bool is_before(struct place place, struct place limit) {
+    return limit.line == 0 || place.line < limit.line || (place.line == limit.line && place.column < limit.column);
+}
+
+uint64_t alone_tell(const struct alone *alone, uint64_t number, struct place limit, struct answer *answer) {
+    struct alone_telling telling;
+    memset(&telling, 0, sizeof telling);
+    telling.alone = alone;
+    log_reader_open(&telling.reader, &own_of(alone)->log, own_of(alone)->log.bytes.length);
+    if (find_again(&telling, number) && is_before(telling.found.place, limit)) {
+        answer->verdict = VERDICT_INVALID;
+        bytes_add_text(&answer->message, "hint");
+        probe(alone->judge, &telling.found, answer);
+    }
+    log_reader_close(&telling.reader);
+    finding_free(&telling.found);
+    return answer->reason == REASON_ELEMENT ? telling.child : 0;
+}
