@@ -73,6 +73,22 @@ static void before_read(void *context) {
     }
 }
 
+/* Lets the receiver keep what it still needs of the events that came. */
+static void keep(void *context) {
+    struct reader *reader = context;
+    if (reader->sink->keep != NULL) {
+        reader->sink->keep(reader->sink->context);
+        feed_since(&reader->feed);
+    }
+}
+
+/* Does the same if the texts of a name do not stay. */
+static void keep_name(struct reader *reader, const struct event_name *name) {
+    if (name == &reader->names.other) {
+        keep(reader);
+    }
+}
+
 static struct span span_of(const xmlChar *text) {
     return text == NULL ? (struct span){"", 0} : (struct span){(const char *)text, strlen((const char *)text)};
 }
@@ -92,22 +108,23 @@ static size_t blanks_of(const char *text, size_t length) {
 }
 
 /* Finds the position of a piece of text, and moves on behind it. Where the document has the piece as it is, its blanks are there too. */
-static struct position text_position(struct reader *reader, const xmlChar *text, size_t length) {
+static struct position text_position(struct reader *reader, const xmlChar *text, size_t length, bool *is_raw) {
     struct feed *feed = &reader->feed;
     bool is_in = is_in_document(reader);
     uint64_t begin;
-    if (is_in && feed_offset_of(feed, text, &begin)) {
+    *is_raw = is_in && feed_offset_of(feed, text, &begin);
+    if (*is_raw) {
         feed_move(feed, begin + length);
         return (struct position){feed, begin, NULL, length};
     }
     uint64_t end = feed_offset(feed);
     begin = feed_settle(feed, end);
-    bool is_raw = is_in && feed_byte(feed, begin) != '&';
+    bool has_blanks = is_in && feed_byte(feed, begin) != '&';
     if (is_in) {
         begin += feed_byte(feed, begin) == '<' ? strlen("<![CDATA[") : 0;
         feed_move(feed, end);
     }
-    return (struct position){feed, begin, NULL, is_raw ? length : 0};
+    return (struct position){feed, begin, NULL, has_blanks ? length : 0};
 }
 
 static void take_text(void *context, const xmlChar *text, int size) {
@@ -116,7 +133,9 @@ static void take_text(void *context, const xmlChar *text, int size) {
     if (!is_good(reader)) {
         return;
     }
-    struct text_event event = {text_position(reader, text, length), {(const char *)text, length}};
+    struct text_event event;
+    event.position = text_position(reader, text, length, &event.is_raw);
+    event.text = (struct span){(const char *)text, length};
     if (length == 0) {
         return;
     }
@@ -217,9 +236,9 @@ static void add_declarations(struct reader *reader, struct start_event *start, i
 }
 
 /* The name of an element or attribute. */
-static struct event_name name_of(struct reader *reader, const xmlChar *local, const xmlChar *prefix, const xmlChar *uri) {
+static const struct event_name *name_of(struct reader *reader, const xmlChar *local, const xmlChar *prefix, const xmlChar *uri) {
     reader->has_undeclared |= prefix != NULL && (uri == NULL || *uri == '\0');
-    return *known_name(&reader->names, reader->feed.parser->dict, local, prefix, uri);
+    return known_name(&reader->names, reader->feed.parser->dict, local, prefix, uri);
 }
 
 static void add_attributes(struct reader *reader, struct start_event *start, int count, const xmlChar **attributes) {
@@ -230,7 +249,7 @@ static void add_attributes(struct reader *reader, struct start_event *start, int
             out_of_memory(reader); /* for the value of a default */
         } else if (has_room(reader, &list, start->attribute_count, &reader->attribute_capacity, sizeof *reader->attributes)) {
             reader->attributes = list;
-            reader->attributes[start->attribute_count++] = (struct event_attribute){name_of(reader, attributes[0], attributes[1], attributes[2]),
+            reader->attributes[start->attribute_count++] = (struct event_attribute){*name_of(reader, attributes[0], attributes[1], attributes[2]),
                                                                                     {(const char *)attributes[3], (size_t)(attributes[4] - attributes[3])}};
         }
     }
@@ -314,12 +333,14 @@ static void take_start(void *context, const xmlChar *local, const xmlChar *prefi
     reader->feed.unfinished = 0;
     struct start_event start;
     start.position = reader->tag;
-    start.name = name_of(reader, local, prefix, uri);
+    const struct event_name *name = name_of(reader, local, prefix, uri);
+    start.name = *name;
     add_declarations(reader, &start, namespace_count, namespaces);
     add_attributes(reader, &start, attribute_count, attributes);
     if (is_good(reader)) {
         hand_start(reader, &start);
     }
+    keep_name(reader, name);
     reader->has_double = false;
     reader->has_undeclared = false;
 }
@@ -345,6 +366,7 @@ static void take_end(void *context, const xmlChar *local, const xmlChar *prefix,
         reader->depth--;
         reader->feed.unfinished = 0;
         go_on(reader, reader->sink->end(reader->sink->context, &position, name));
+        keep_name(reader, name);
     }
 }
 
@@ -598,6 +620,7 @@ static void read_all(struct reader *reader) {
     }
     reader->feed.parser = parser;
     xmlParseDocument(parser);
+    keep(reader);
     check_end(reader);
     xmlDocPtr document = parser->myDoc;
     xmlFreeParserCtxt(parser);
@@ -636,6 +659,7 @@ void read_events(const struct byte_source *source, const struct event_sink *sink
     reader->sink = sink;
     reader->fault = fault;
     feed_open(&reader->feed, source, fault);
+    reader->feed.keep = keep;
     reader->feed.before_read = before_read;
     reader->feed.most = sink->memory == 0 ? USUAL_MEMORY : sink->memory;
     reader->feed.context = reader;

@@ -17,13 +17,10 @@ struct position {
 /* The place of an event, while the receiver has the event. Events that come later have to be asked for later. */
 struct place place_of(const struct position *position);
 
-/* Keeps the position of an event instead of the one that was kept before, so that its place can be asked for later. */
-void keep_position(const struct position *position);
+/* The place of an event that came since `keep`, in any order. */
+struct place earlier_place_of(const struct position *position);
 
-/* The place of the position that was kept, in the document of this one. It is asked for before that of this one. */
-struct place kept_place(const struct position *position);
-
-/* A name. Its texts are there until the receiver returns, and their data is never NULL. */
+/* A name. Its texts are there until the receiver returns from `keep`, and their data is never NULL. */
 struct event_name {
     struct span prefix; /* as it is written; empty: there is none */
     struct span local;
@@ -54,9 +51,13 @@ struct start_event {
 struct text_event {
     struct position position; /* of its first character that is no blank, or where it begins */
     struct span text;
+    bool is_raw; /* the document has it as it is, and text_at gives it */
 };
 
-/* The receiver. Each function but `note`, `flush` and `held` returns false if no more is wanted. */
+/* The text of an event that came since `keep`, if it is raw and has this position and length. */
+struct span text_at(const struct position *position, size_t length);
+
+/* The receiver. Each function but `note`, `flush`, `keep` and `held` returns false if no more is wanted. */
 struct event_sink {
     bool (*start)(void *context, const struct start_event *start);
     bool (*text)(void *context, const struct text_event *text);
@@ -64,6 +65,7 @@ struct event_sink {
     bool (*instruction)(void *context, const struct position *position, struct span target, struct span data);
     void (*note)(void *context, struct place place, const char *what); /* what is left out of the document without harm to its form */
     void (*flush)(void *context); /* comes before more of the document is read, which may take long; NULL: not wanted */
+    void (*keep)(void *context);  /* comes before names, raw texts and places of earlier events vanish, also after a fault; NULL: not wanted */
     size_t (*held)(const void *context); /* how many bytes it keeps of the document; NULL: none that grow with it */
     void *context;
     bool checks_names; /* a tag that breaks Namespaces in XML is a fault, with its clause */

@@ -23,6 +23,7 @@ void feed_open(struct feed *feed, const struct byte_source *source, struct fault
     feed->fault = fault;
     feed->decoding = new_decoding;
     feed->place = (struct place){1, 1};
+    feed->since = feed->place;
     feed->long_at = UINT64_MAX;
 }
 
@@ -138,30 +139,43 @@ struct place feed_place(struct feed *feed, uint64_t offset) {
     return feed->place;
 }
 
-struct place place_of(const struct position *position) {
-    struct feed *feed = position->feed;
+static uint64_t offset_of(const struct position *position) {
+    const struct feed *feed = position->feed;
     if (position->mark != NULL) {
-        return feed_place(feed, feed_last(feed, position->at, position->mark));
+        return feed_last(feed, position->at, position->mark);
     }
     size_t blanks = 0;
     while (blanks < position->blanks && is_blank(feed_byte(feed, position->at + blanks))) {
         blanks++;
     }
-    return feed_place(feed, blanks < position->blanks ? position->at + blanks : position->at);
+    return blanks < position->blanks ? position->at + blanks : position->at;
 }
 
-void keep_position(const struct position *position) {
-    position->feed->kept_position = *position;
-    position->feed->is_kept_known = false;
+struct place place_of(const struct position *position) {
+    return feed_place(position->feed, offset_of(position));
 }
 
-struct place kept_place(const struct position *position) {
+void feed_since(struct feed *feed) {
+    feed->since_at = feed->place_at;
+    feed->since = feed->place;
+}
+
+struct place earlier_place_of(const struct position *position) {
     struct feed *feed = position->feed;
-    if (!feed->is_kept_known && feed->kept_position.feed != NULL) {
-        feed->kept_place = place_of(&feed->kept_position);
-        feed->is_kept_known = true;
+    uint64_t offset = offset_of(position);
+    if (offset >= feed->place_at || is_in_mark(feed, offset)) {
+        return feed_place(feed, offset);
     }
-    return feed->kept_place;
+    if (offset <= feed->since_at) {
+        return feed->since;
+    }
+    return counted(feed->since, feed->text.data + (feed->since_at - feed->begin), feed->text.data + (offset - feed->begin));
+}
+
+struct span text_at(const struct position *position, size_t length) {
+    const struct feed *feed = position->feed;
+    bool is_there = position->at >= feed->begin && position->at + length <= end_of(feed);
+    return is_there ? (struct span){feed->text.data + (position->at - feed->begin), length} : (struct span){"", 0};
 }
 
 uint64_t feed_settle(struct feed *feed, uint64_t end) {
@@ -213,10 +227,10 @@ static void forget_long(struct feed *feed) {
 
 /* Forgets the text that was read. What may be asked for again is kept. */
 static void forget(struct feed *feed) {
-    kept_place(&(struct position){feed, 0, NULL, 0});
     feed_place(feed, feed->next < feed->begin + feed->given ? feed->next : feed->begin + feed->given);
     cut(feed, feed->place_at < feed->next ? feed->place_at : feed->next);
     forget_long(feed);
+    feed_since(feed);
 }
 
 bool feed_is_over(const struct feed *feed) {
@@ -376,6 +390,7 @@ static void check_length(struct feed *feed, uint64_t markup) {
 int feed_read(void *context, char *bytes, int length) {
     struct feed *feed = context;
     size_t wanted = length > 0 ? (size_t)length : 0;
+    feed->keep(feed->context);
     while (feed->fault->kind == FAULT_NONE && feed->text.length - feed->given < wanted && !feed->has_ended && feed->decoding.fault.kind == FAULT_NONE) {
         forget(feed);
         feed->before_read(feed->context);

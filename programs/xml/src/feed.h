@@ -34,6 +34,8 @@ struct feed {
     bool has_ended;     /* there is no more of the document */
     uint64_t place_at;  /* an offset, and its place */
     struct place place;
+    uint64_t since_at;  /* the same when `keep` was called last: places behind it can still be worked out */
+    struct place since;
     bool is_away;       /* libxml2 reads the external DTD, and the parser's first input is that (`away_at`: where it is in the document) */
     uint64_t away_at;
     uint64_t markup;    /* the offset after the blanks at `next`, as far as they are known */
@@ -47,12 +49,10 @@ struct feed {
     uint64_t long_at;   /* the offset of markup that is so long that its beginning is not kept, .. */
     struct place long_place;
     char long_mark[MARK_BYTES]; /* .. but its place and its first bytes */
-    struct position kept_position; /* of an event whose place may be asked for later; without a feed: of none */
-    bool is_kept_known;
-    struct place kept_place;
     size_t most;        /* the bytes that may be held of the document */
     size_t unfinished;  /* the bytes of the text that the receiver has not seen the end of */
     size_t kept;        /* the bytes that the receiver keeps otherwise */
+    void (*keep)(void *context);        /* is called before text that was read is forgotten */
     void (*before_read)(void *context); /* is called before more of the document is read, which may take long */
     void *context;
 };
@@ -102,6 +102,9 @@ uint64_t feed_last(const struct feed *feed, uint64_t end, const char *text);
 
 /* The place of an offset. Offsets before the last one that was asked for have its place. */
 struct place feed_place(struct feed *feed, uint64_t offset);
+
+/* Begins the part of the text whose places can be asked for in any order. */
+void feed_since(struct feed *feed);
 
 /* Moves on: what is before the offset was read. */
 static inline void feed_move(struct feed *feed, uint64_t next) {

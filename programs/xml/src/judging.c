@@ -8,7 +8,28 @@
 
 enum {
     MOST_NOTES = 100,
+    MOST_STEPS = 16, /* starts and ends after which the library is asked whether something valid can follow */
     TEXT_BYTES = 512 /* kept of a text: enough for what is shown of it */
+};
+
+/* A start or an end, and what is directly before it. The library is not asked after each one. So what is told if nothing valid can follow it is kept: positions
+ * and lengths, since that costs less than places and texts. */
+struct step {
+    struct position position;
+    struct event_name name;
+    struct position before; /* of the text or the start tag directly before it, if one is there */
+    size_t raw;     /* how many bytes that text has in the document at `before`; 0: it is kept */
+    size_t kept_at; /* where it begins in the judge's `text`, .. */
+    size_t kept;    /* .. and how many bytes are there */
+    size_t text_at; /* where it begins in the log */
+    size_t at;      /* where the start or end begins in the log */
+    bool has_text;
+    bool has_tag;   /* nothing came behind the start tag */
+    bool is_cut;    /* no more of the text is kept */
+    bool is_begun;  /* what is kept of it begins with a character that is no blank */
+    bool is_known;  /* the place of `before` is known */
+    bool is_end;
+    bool is_logged; /* with all before it */
 };
 
 /* A document that is being judged. */
@@ -20,11 +41,9 @@ struct judging {
     struct finding found; /* where the document is invalid, if that is known */
     rncv_verdict verdict;
     uint64_t number; /* of the starts and ends that were passed: it is the place of the last one for the library */
-    bool has_tag;    /* nothing came behind the start tag whose position is kept */
-    bool has_text;   /* a text is directly before what comes next, whose position is kept */
-    bool is_cut;     /* no more of it is kept */
-    bool is_begun;   /* what is kept of it begins with a character that is no blank */
-    size_t text_at;          /* where it begins in the log */
+    size_t passed;   /* how many of these the library was not asked about */
+    struct step steps[MOST_STEPS + 1]; /* these, and the one that comes next */
+    struct place before; /* the place that the first one knows */
     bool has_begun; /* a byte of the document was read, and this is the first one */
     char first;
 };
@@ -105,134 +124,220 @@ static size_t blanks_of(struct span text) {
     return at;
 }
 
-/* Drops the blanks before what is kept of the text. */
-static void drop_blanks(struct judging *judging) {
-    struct bytes *kept = &judging->judge->text;
-    if (!judging->is_begun) {
-        bytes_cut_front(kept, blanks_of((struct span){kept->data, kept->length}));
-        judging->is_begun = kept->length > 0;
+/* The start or end that comes next. */
+static inline struct step *next_step(struct judging *judging) {
+    return &judging->steps[judging->passed];
+}
+
+static struct span kept_text(const struct judging *judging, const struct step *step) {
+    return step->kept == 0 ? (struct span){"", 0} : (struct span){judging->judge->text.data + step->kept_at, step->kept};
+}
+
+/* Drops the blanks before what is kept of a text. Nothing is kept behind it. */
+static void drop_blanks(struct judging *judging, struct step *step) {
+    if (!step->is_begun && step->kept > 0) {
+        struct bytes *kept = &judging->judge->text;
+        size_t blanks = blanks_of(kept_text(judging, step));
+        memmove(kept->data + step->kept_at, kept->data + step->kept_at + blanks, step->kept - blanks);
+        step->kept -= blanks;
+        kept->length -= blanks;
+        step->is_begun = step->kept > 0;
     }
 }
 
-/* A start or an end that was passed to the library. */
-struct passed {
-    const struct position *position;
-    const struct event_name *name;
-    size_t at; /* where it begins in the log */
-    bool is_end;
-};
-
-/* Notes what is at the start or end after which nothing valid can follow. A fault of an element without content is reported where its tag begins. */
-static bool note_finding(struct judging *judging, const struct passed *passed) {
-    const struct judge *judge = judging->judge;
-    struct finding *found = &judging->found;
-    drop_blanks(judging);
-    found->is_there = true;
-    found->is_end = passed->is_end;
-    found->has_text = judging->has_text && judge->text.length > 0;
-    found->text_place = kept_place(passed->position);
-    found->place = passed->is_end && judging->has_tag ? found->text_place : place_of(passed->position);
-    found->is_kept = !judge->log.is_full && !judge->log.bytes.failed;
-    found->at = passed->at;
-    found->text_at = judging->has_text ? judging->text_at : passed->at;
-    bytes_add(&found->text, judge->text.data, judging->has_text ? judge->text.length : 0);
-    add_written(&found->name, passed->name);
-    found->is_cut = judging->is_cut;
-    found->uri_length = passed->name->uri.length;
-    bytes_add(&found->expanded, passed->name->uri.data, passed->name->uri.length);
-    bytes_add(&found->expanded, passed->name->local.data, passed->name->local.length);
-    bool is_told = expected_get(&judging->judge->schema, &found->expected);
-    return is_told && !found->name.failed && !found->expanded.failed && !found->text.failed && !judge->text.failed;
+static void add_kept(struct judging *judging, struct step *step, struct span text) {
+    struct bytes *kept = &judging->judge->text;
+    size_t before = kept->length;
+    bytes_add(kept, text.data, text.length);
+    step->kept += kept->length - before;
 }
 
-/* Looks whether nothing valid can follow the start or end that was passed last. */
-static bool look(struct judging *judging, const struct passed *passed) {
+/* Keeps what there is room for of a text that is too long to be kept. It begins with a character that is no blank. No character is cut. */
+static void keep_beginning(struct judging *judging, struct step *step, struct span text) {
+    drop_blanks(judging, step);
+    size_t begin = step->is_begun ? 0 : blanks_of(text);
+    size_t length = text.length - begin;
+    step->is_begun |= length > 0;
+    if (length > TEXT_BYTES - step->kept) {
+        step->is_cut = true;
+        length = TEXT_BYTES - step->kept;
+        while (length > 0 && ((unsigned char)text.data[begin + length] & 0xC0) == 0x80) {
+            length--;
+        }
+    }
+    add_kept(judging, step, (struct span){text.data + begin, length});
+}
+
+/* Keeps the beginning of a text. Most are short, and no character of theirs is looked at. */
+static void keep_text(struct judging *judging, struct step *step, struct span text) {
+    if (step->is_cut) {
+        return;
+    }
+    if (text.length <= TEXT_BYTES - step->kept) {
+        add_kept(judging, step, text);
+    } else {
+        keep_beginning(judging, step, text);
+    }
+}
+
+/* Keeps a text that is only in the document so far. Nothing is kept behind it. */
+static void keep_raw(struct judging *judging, struct step *step) {
+    if (step->raw > 0) {
+        struct span text = text_at(&step->before, step->raw);
+        step->kept_at = judging->judge->text.length;
+        step->raw = 0;
+        keep_text(judging, step, text);
+    }
+}
+
+/* Notes what is at the start or end after which nothing valid can follow. A fault of an element without content is reported where its tag begins. */
+static bool note_finding(struct judging *judging, struct step *step) {
+    struct finding *found = &judging->found;
+    judging->judge->text.length = step->kept_at + step->kept; /* what is kept of later texts is needed no more */
+    keep_raw(judging, step);
+    drop_blanks(judging, step);
+    struct span text = kept_text(judging, step);
+    found->is_there = true;
+    found->is_end = step->is_end;
+    found->has_text = text.length > 0;
+    if (step->has_text || step->has_tag) {
+        found->text_place = step->is_known ? judging->before : earlier_place_of(&step->before);
+    }
+    found->place = step->is_end && step->has_tag ? found->text_place : earlier_place_of(&step->position);
+    found->is_kept = step->is_logged;
+    found->at = step->at;
+    found->text_at = step->has_text ? step->text_at : step->at;
+    bytes_add(&found->text, text.data, text.length);
+    add_written(&found->name, &step->name);
+    found->is_cut = step->is_cut;
+    found->uri_length = step->name.uri.length;
+    bytes_add(&found->expanded, step->name.uri.data, step->name.uri.length);
+    bytes_add(&found->expanded, step->name.local.data, step->name.local.length);
+    bool is_told = expected_get(&judging->judge->schema, &found->expected);
+    return is_told && !found->name.failed && !found->expanded.failed && !found->text.failed && !judging->judge->text.failed;
+}
+
+/* Begins again with the step that comes next. */
+static void begin_steps(struct judging *judging) {
+    struct bytes *kept = &judging->judge->text;
+    struct step *first = &judging->steps[0];
+    *first = *next_step(judging);
+    bytes_cut_front(kept, first->kept > 0 ? first->kept_at : kept->length);
+    first->kept_at = 0;
+    judging->passed = 0;
+}
+
+/* Looks whether nothing valid can follow one of the starts and ends that were passed. What the library says of it does not change with later ones. */
+static bool look(struct judging *judging) {
     uint64_t since = 0;
-    if (judging->found.is_there) {
+    if (judging->passed == 0 || judging->found.is_there) {
         return true;
     }
     if (rncv_events_invalid_since(&judging->judge->schema, &since) != RNCV_DONE) {
         return out_of_memory(judging);
     }
-    if (since == judging->number) {
-        return note_finding(judging, passed) || out_of_memory(judging);
-    }
-    if (since != 0) { /* one that came before, whose place is no longer known */
+    uint64_t before = judging->number - judging->passed;
+    if (since == 0) {
+        begin_steps(judging);
+    } else if (since > before && since <= judging->number) {
+        return note_finding(judging, &judging->steps[since - before - 1]) || out_of_memory(judging);
+    } else { /* one that came before, whose place is no longer known */
         judging->found.is_there = true;
         judging->found.is_lost = true;
     }
     return true;
 }
 
+/* Keeps what is needed of the texts and names that vanish. */
+static void keep(void *context) {
+    struct judging *judging = context;
+    if (!look(judging) || judging->found.is_there) {
+        return;
+    }
+    struct step *step = next_step(judging);
+    if ((step->has_text || step->has_tag) && !step->is_known) {
+        judging->before = place_of(&step->before);
+        step->is_known = true;
+    }
+    keep_raw(judging, step);
+}
+
+/* Ends the step of a start or an end that was passed, and begins the next one. */
+static bool end_step(struct judging *judging, struct step *step, const struct position *position, const struct event_name *name) {
+    step->position = *position;
+    step->name = *name;
+    step->is_logged = !judging->judge->log.is_full;
+    judging->passed++;
+    struct step *next = next_step(judging);
+    next->before = *position;
+    next->raw = 0;
+    next->kept_at = 0;
+    next->kept = 0;
+    next->has_text = false;
+    next->has_tag = !step->is_end;
+    next->is_cut = false;
+    next->is_begun = false;
+    next->is_known = false;
+    return judging->passed < MOST_STEPS || look(judging);
+}
+
 static bool take_start(void *context, const struct start_event *start) {
     struct judging *judging = context;
     struct judge *judge = judging->judge;
-    if (!judging->found.is_there) {
+    struct step *step = next_step(judging);
+    bool is_found = judging->found.is_there;
+    if (!is_found) {
         event_log_declarations(&judge->log, start);
     }
-    struct passed passed = {&start->position, &start->name, judge->log.bytes.length, false};
+    step->at = judge->log.bytes.length;
+    step->is_end = false;
     int32_t status = library_start(&judge->schema, &judge->room, ++judging->number, &start->name, start->attributes, start->attribute_count);
-    if (!judging->found.is_there) {
-        event_log_start(&judge->log, start);
+    if (status != RNCV_DONE || is_found) {
+        return is_taken(judging, status);
     }
-    if (!is_taken(judging, status) || !look(judging, &passed)) {
-        return false;
+    event_log_start(&judge->log, start);
+    if (judge->shared->ids != NULL && !id_check_take(&judge->ids, start)) {
+        return out_of_memory(judging);
     }
-    judging->has_tag = true;
-    keep_position(&start->position);
-    judging->has_text = false;
-    bool has_ids = judge->shared->ids != NULL && !judging->found.is_there;
-    return !has_ids || id_check_take(&judge->ids, start) || out_of_memory(judging);
+    return end_step(judging, step, &start->position, &start->name);
 }
 
-/* Keeps what there is room for of a text that is too long to be kept. It begins with a character that is no blank. No character is cut. */
-static void keep_beginning(struct judging *judging, struct span text) {
-    struct bytes *kept = &judging->judge->text;
-    drop_blanks(judging);
-    size_t begin = judging->is_begun ? 0 : blanks_of(text);
-    size_t length = text.length - begin;
-    judging->is_begun |= length > 0;
-    if (length > TEXT_BYTES - kept->length) {
-        judging->is_cut = true;
-        length = TEXT_BYTES - kept->length;
-        while (length > 0 && ((unsigned char)text.data[begin + length] & 0xC0) == 0x80) {
-            length--;
-        }
-    }
-    bytes_add(kept, text.data + begin, length);
-}
-
-/* Keeps the beginning of a text. Most are short, and no character of theirs is looked at. */
-static void keep_text(struct judging *judging, struct span text) {
-    struct bytes *kept = &judging->judge->text;
-    if (judging->is_cut) {
+/* Takes the first piece of a text if it is not in the document as it is, or a later piece. */
+static void take_piece(struct judging *judging, struct step *step, const struct text_event *event) {
+    if (judging->found.is_there) {
         return;
     }
-    if (text.length <= TEXT_BYTES - kept->length) {
-        bytes_add(kept, text.data, text.length);
+    if (!step->has_text) {
+        step->text_at = judging->judge->log.bytes.length;
+        step->kept_at = judging->judge->text.length;
     } else {
-        keep_beginning(judging, text);
+        keep_raw(judging, step);
+        drop_blanks(judging, step);
     }
+    if (!step->is_begun) {
+        step->before = event->position;
+        step->is_known = false;
+    }
+    step->has_text = true;
+    step->has_tag = false;
+    keep_text(judging, step, event->text);
 }
 
 static bool take_text(void *context, const struct text_event *event) {
     struct judging *judging = context;
     struct judge *judge = judging->judge;
-    if (!judging->has_text) {
-        judge->text.length = 0;
-        judging->is_cut = false;
-        judging->is_begun = false;
-        judging->text_at = judge->log.bytes.length;
+    struct step *step = next_step(judging);
+    if (step->has_text || !event->is_raw) {
+        take_piece(judging, step, event);
     } else {
-        drop_blanks(judging);
+        step->before = event->position;
+        step->raw = event->text.length;
+        step->text_at = judge->log.bytes.length;
+        step->has_text = true;
+        step->has_tag = false;
+        step->is_known = false;
     }
-    if (!judging->is_begun) {
-        keep_position(&event->position);
-    }
-    judging->has_text = true;
-    judging->has_tag = false;
     if (!judging->found.is_there) {
-        keep_text(judging, event->text);
         event_log_text(&judge->log, event->text);
     }
     return is_taken(judging, library_text(&judge->schema, event->text));
@@ -241,17 +346,15 @@ static bool take_text(void *context, const struct text_event *event) {
 static bool take_end(void *context, const struct position *position, const struct event_name *name) {
     struct judging *judging = context;
     struct judge *judge = judging->judge;
-    struct passed passed = {position, name, judge->log.bytes.length, true};
+    struct step *step = next_step(judging);
+    step->at = judge->log.bytes.length;
+    step->is_end = true;
     int32_t status = rncv_events_end(&judge->schema, ++judging->number);
-    if (!judging->found.is_there) {
-        event_log_end(&judge->log);
+    if (status != RNCV_DONE || judging->found.is_there) {
+        return is_taken(judging, status);
     }
-    if (!is_taken(judging, status) || !look(judging, &passed)) {
-        return false;
-    }
-    judging->has_tag = false;
-    judging->has_text = false;
-    return true;
+    event_log_end(&judge->log);
+    return end_step(judging, step, position, name);
 }
 
 /* An instruction is nothing for the judge. */
@@ -260,7 +363,7 @@ static bool take_instruction(void *context, const struct position *position, str
     (void)position;
     (void)target;
     (void)data;
-    judging->has_tag = false;
+    next_step(judging)->has_tag = false;
     return true;
 }
 
@@ -410,7 +513,7 @@ static void answer_all(struct judging *judging) {
 
 static void read_source(struct judging *judging, const struct byte_source *source) {
     const struct shared *shared = judging->judge->shared;
-    struct event_sink sink = {take_start, take_text, take_end, take_instruction, take_note, NULL, held, judging, true, shared->depth, shared->memory};
+    struct event_sink sink = {take_start, take_text, take_end, take_instruction, take_note, NULL, keep, held, judging, true, shared->depth, shared->memory};
     read_events(source, &sink, judging->fault);
 }
 
@@ -435,6 +538,7 @@ static void judge_either(struct judge *judge, const struct byte_source *given, c
     if (judge->text.failed) {
         bytes_free(&judge->text);
     }
+    bytes_clear(&judge->text);
     id_check_begin(&judge->ids);
     if (rncv_events_begin(&judge->schema) != RNCV_DONE) {
         out_of_memory(&judging);
