@@ -21,6 +21,9 @@ struct span {
 
 #define NO_BYTES {NULL, 0, 0, false}
 
+/* Begins a function that is seldom called. It stays out of those that call it, which then save no registers for it. */
+#define SELDOM __attribute__((noinline, cold))
+
 /* Makes the room larger. After a failure there is no more room: the capacity is the length. */
 bool bytes_grow(struct bytes *bytes, size_t more);
 

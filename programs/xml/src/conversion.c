@@ -204,7 +204,7 @@ static bool has_blanks_alone(struct span text) {
     return at == text.length;
 }
 
-static bool take_text(void *context, const struct text_event *event) {
+static void take_text(void *context, const struct text_event *event) {
     struct writer *writer = context;
     bool is_blank = (!writer->has_text || writer->is_blank) && has_blanks_alone(event->text);
     if (!writer->has_text || (writer->is_blank && !is_blank)) {
@@ -224,7 +224,6 @@ static bool take_text(void *context, const struct text_event *event) {
     } else if (writer->text_bytes >= TEXT_CHARACTERS && held_characters(writer, event->text) >= TEXT_CHARACTERS) {
         text_ends(writer);
     }
-    return is_good(writer);
 }
 
 static void add_name(struct bytes *pyx, const struct event_name *name) {
@@ -245,14 +244,14 @@ static void put_attribute(struct writer *writer, const struct event_name *name, 
     }
 }
 
-static bool take_start(void *context, const struct start_event *start) {
+static void take_start(void *context, const struct start_event *start) {
     static const struct span xmlns = {"xmlns", 5};
     static const struct span none = {"", 0};
     struct writer *writer = context;
     struct place place = place_of(&start->position);
     text_ends(writer);
     bytes_add_byte(&writer->pyx, '(');
-    add_name(&writer->pyx, &start->name);
+    add_name(&writer->pyx, start->name);
     line_ends(writer, place);
     for (size_t at = 0; at < start->declaration_count; at++) {
         const struct event_declaration *declaration = &start->declarations[at];
@@ -263,20 +262,18 @@ static bool take_start(void *context, const struct start_event *start) {
     for (size_t at = 0; at < start->attribute_count; at++) {
         put_attribute(writer, &start->attributes[at].name, start->attributes[at].value, place);
     }
-    return is_good(writer);
 }
 
-static bool take_end(void *context, const struct position *position, const struct event_name *name) {
+static void take_end(void *context, const struct position *position, const struct event_name *name) {
     struct writer *writer = context;
     text_ends(writer);
     bytes_add_byte(&writer->pyx, ')');
     add_name(&writer->pyx, name);
     line_ends(writer, place_of(position));
-    return is_good(writer);
 }
 
 /* An instruction vanishes. It has a line so that texts join across it. A long line is cut. */
-static bool take_instruction(void *context, const struct position *position, struct span target, struct span data) {
+static void take_instruction(void *context, const struct position *position, struct span target, struct span data) {
     struct writer *writer = context;
     text_ends(writer);
     size_t begin = writer->pyx.length;
@@ -290,7 +287,6 @@ static bool take_instruction(void *context, const struct position *position, str
         writer->pyx.length = begin + cut_at(writer->pyx.data + begin, writer->pyx.length - begin, LINE_BYTES);
     }
     line_ends(writer, place_of(position));
-    return is_good(writer);
 }
 
 static void take_note(void *context, struct place place, const char *what) {

@@ -22,8 +22,11 @@ enum {
 struct reader {
     struct feed feed;
     struct declarations declarations;
-    const struct event_sink *sink;
+    struct event_sink sink;
     struct fault *fault;
+    struct start_event start; /* the last one, and the last of these */
+    struct text_event text;
+    struct position end;
     struct event_attribute *attributes; /* room for those of a tag */
     size_t attribute_capacity;
     struct event_declaration *declared; /* room for its declarations */
@@ -32,9 +35,9 @@ struct reader {
     bool has_bad_name;   /* the tag that is being read has a name that is no QName */
     bool has_double;     /* two of its attributes have one name */
     bool has_undeclared; /* a name of it has a prefix that is not declared */
-    struct position tag; /* of the last start tag */
-    bool is_empty;       /* its end is in it */
+    bool is_empty;       /* the end of the last start tag is in it */
     size_t depth;
+    size_t most_depth;
     uint64_t searched; /* how many open namespaces were looked at for names */
     struct parser_memory memory;
 };
@@ -50,17 +53,10 @@ static bool is_good(const struct reader *reader) {
     return reader->fault->kind == FAULT_NONE;
 }
 
-/* Notes whether the receiver wants more. */
-static void go_on(struct reader *reader, bool wants_more) {
-    if (!wants_more) {
-        fault_set(reader->fault, FAULT_STOPPED, (struct place){0, 0}, "stopped");
-    }
-}
-
 static void flush(void *context) {
     const struct reader *reader = context;
-    if (is_good(reader) && reader->sink->flush != NULL) {
-        reader->sink->flush(reader->sink->context);
+    if (is_good(reader) && reader->sink.flush != NULL) {
+        reader->sink.flush(reader->sink.context);
     }
 }
 
@@ -68,16 +64,16 @@ static void flush(void *context) {
 static void before_read(void *context) {
     struct reader *reader = context;
     flush(reader);
-    if (reader->sink->held != NULL) {
-        reader->feed.kept = reader->sink->held(reader->sink->context);
+    if (reader->sink.held != NULL) {
+        reader->feed.kept = reader->sink.held(reader->sink.context);
     }
 }
 
 /* Lets the receiver keep what it still needs of the events that came. */
 static void keep(void *context) {
     struct reader *reader = context;
-    if (reader->sink->keep != NULL) {
-        reader->sink->keep(reader->sink->context);
+    if (reader->sink.keep != NULL) {
+        reader->sink.keep(reader->sink.context);
         feed_since(&reader->feed);
     }
 }
@@ -95,7 +91,7 @@ static struct span span_of(const xmlChar *text) {
 
 /* Whether libxml2 reads the document itself, and not the text of an entity. */
 static bool is_in_document(const struct reader *reader) {
-    return reader->feed.parser->depth == 0 && reader->feed.parser->inputNr == 1 && !reader->feed.is_away;
+    return feed_is_read(&reader->feed);
 }
 
 /* How many blanks begin the text. */
@@ -107,58 +103,90 @@ static size_t blanks_of(const char *text, size_t length) {
     return at;
 }
 
-/* Finds the position of a piece of text, and moves on behind it. Where the document has the piece as it is, its blanks are there too. */
-static struct position text_position(struct reader *reader, const xmlChar *text, size_t length, bool *is_raw) {
+/* Whether a piece of text is in the text of the document as libxml2 has it. */
+static bool is_raw(const struct reader *reader, const xmlChar *text) {
+    const xmlParserInput *input = reader->feed.parser->input;
+    return is_in_document(reader) && text >= input->base && text < input->end;
+}
+
+/* Sets the position of a piece of text that is in the text of the document, and moves on behind it. */
+static void set_raw(struct reader *reader, const xmlChar *text, size_t length) {
+    struct text_event *event = &reader->text;
+    event->position.at = feed_offset_in(reader->feed.parser->input, text);
+    event->position.blanks = length;
+    event->is_raw = true;
+    feed_move(&reader->feed, event->position.at + length);
+}
+
+/* Sets the position of another piece, and moves on behind it. Where the document has the piece as it is, its blanks are there too. */
+static void set_other_text(struct reader *reader, size_t length) {
     struct feed *feed = &reader->feed;
-    bool is_in = is_in_document(reader);
-    uint64_t begin;
-    *is_raw = is_in && feed_offset_of(feed, text, &begin);
-    if (*is_raw) {
-        feed_move(feed, begin + length);
-        return (struct position){feed, begin, NULL, length};
-    }
+    struct text_event *event = &reader->text;
     uint64_t end = feed_offset(feed);
-    begin = feed_settle(feed, end);
+    uint64_t begin = feed_settle(feed, end);
+    bool is_in = is_in_document(reader);
     bool has_blanks = is_in && feed_byte(feed, begin) != '&';
     if (is_in) {
         begin += feed_byte(feed, begin) == '<' ? strlen("<![CDATA[") : 0;
         feed_move(feed, end);
     }
-    return (struct position){feed, begin, NULL, has_blanks ? length : 0};
+    event->position.at = begin;
+    event->position.blanks = has_blanks ? length : 0;
+    event->is_raw = false;
 }
 
+/* Takes any piece of text. */
+static SELDOM void take_any_text(struct reader *reader, const xmlChar *text, size_t length) {
+    if (is_raw(reader, text)) {
+        set_raw(reader, text, length);
+    } else {
+        set_other_text(reader, length);
+    }
+    if (length == 0) {
+        return;
+    }
+    reader->text.text = (struct span){(const char *)text, length};
+    reader->feed.unfinished += length;
+    if (reader->feed.unfinished > LONG_TEXT && feed_is_over(&reader->feed)) {
+        feed_check_memory(&reader->feed, place_of(&reader->text.position));
+        return;
+    }
+    reader->sink.text(reader->sink.context, &reader->text);
+}
+
+/* Takes a piece of text, without registers saved and without a call before the last one if it is usual: this is called most often. */
 static void take_text(void *context, const xmlChar *text, int size) {
     struct reader *reader = context;
     size_t length = size > 0 ? (size_t)size : 0;
     if (!is_good(reader)) {
         return;
     }
-    struct text_event event;
-    event.position = text_position(reader, text, length, &event.is_raw);
-    event.text = (struct span){(const char *)text, length};
-    if (length == 0) {
+    if (length == 0 || reader->feed.unfinished + length > LONG_TEXT || !is_raw(reader, text)) {
+        take_any_text(reader, text, length);
         return;
     }
+    set_raw(reader, text, length);
+    reader->text.text = (struct span){(const char *)text, length};
     reader->feed.unfinished += length;
-    if (reader->feed.unfinished > LONG_TEXT && feed_is_over(&reader->feed)) {
-        feed_check_memory(&reader->feed, place_of(&event.position));
-        return;
-    }
-    go_on(reader, reader->sink->text(reader->sink->context, &event));
+    reader->sink.text(reader->sink.context, &reader->text);
 }
 
-/* Sets the position of a start tag, and moves on behind it. */
+/* Sets the position of a start tag in the document, and moves on behind it. */
 static void set_tag(struct reader *reader) {
-    struct feed *feed = &reader->feed;
-    uint64_t end = feed_offset(feed);
-    if (!is_in_document(reader)) {
-        reader->tag = (struct position){feed, feed_settle(feed, end), NULL, 0};
-        reader->is_empty = false;
-        return;
-    }
-    reader->tag = (struct position){feed, end, "<", 0};
-    reader->is_empty = feed_byte(feed, end) == '/';
-    feed_move(feed, end + (reader->is_empty ? 2 : 1));
+    const xmlParserInput *input = reader->feed.parser->input;
+    uint64_t end = feed_offset_in(input, input->cur);
+    bool is_empty = *input->cur == '/';
+    reader->start.position.at = end;
+    reader->start.position.blanks = BEFORE_TAG;
+    reader->is_empty = is_empty;
+    feed_move(&reader->feed, end + 1 + is_empty);
+}
+
+/* Sets the position of a start tag in an entity. */
+static void set_other_tag(struct reader *reader) {
+    reader->start.position.at = feed_settle(&reader->feed, feed_offset(&reader->feed));
+    reader->start.position.blanks = 0;
+    reader->is_empty = false;
 }
 
 /* Makes room for one more item of this size. False: out of memory, and there is a fault. */
@@ -218,7 +246,7 @@ static void add_defaults(struct reader *reader, struct start_event *start) {
     for (size_t at = 0; at < declarations->default_count && is_good(reader); at++) {
         const struct namespace_default *found = &declarations->defaults[at];
         const char *prefix = found->name[5] == '\0' ? "" : found->name + 6;
-        if (is_written(&start->name, found->element) && !declares(reader, own, (struct span){prefix, strlen(prefix)})) {
+        if (is_written(start->name, found->element) && !declares(reader, own, (struct span){prefix, strlen(prefix)})) {
             add_declaration(reader, start, (struct span){prefix, strlen(prefix)}, (struct span){found->value, strlen(found->value)});
         }
     }
@@ -235,10 +263,15 @@ static void add_declarations(struct reader *reader, struct start_event *start, i
     start->declarations = reader->declared;
 }
 
-/* The name of an element or attribute. */
+/* The name of an element or attribute, until another one is asked for. */
 static const struct event_name *name_of(struct reader *reader, const xmlChar *local, const xmlChar *prefix, const xmlChar *uri) {
+    struct known_name *slot = known_slot(&reader->names, local);
+    if (is_known(slot, local, prefix, uri)) {
+        return &slot->name;
+    }
     reader->has_undeclared |= prefix != NULL && (uri == NULL || *uri == '\0');
-    return known_name(&reader->names, reader->feed.parser->dict, local, prefix, uri);
+    keep(reader); /* a new name takes the place of another one */
+    return known_name_new(&reader->names, slot, reader->feed.parser->dict, local, prefix, uri);
 }
 
 static void add_attributes(struct reader *reader, struct start_event *start, int count, const xmlChar **attributes) {
@@ -272,27 +305,27 @@ static void check_names(struct reader *reader, const struct start_event *start) 
 
 /* Counts an element that is open. */
 static void count_open(struct reader *reader) {
-    size_t most = reader->sink->depth == 0 ? USUAL_DEPTH : reader->sink->depth;
-#if LIBXML_VERSION < 20911
-    most = most < USUAL_DEPTH ? most : USUAL_DEPTH; /* these call themselves for an element in an element */
-#endif
     reader->depth++;
-    if (reader->depth > most) {
+    if (reader->depth > reader->most_depth) {
         struct bytes count = NO_BYTES;
-        bytes_add_count(&count, most);
-        fault_set(reader->fault, FAULT_OUTSIDE, place_of(&reader->tag), "over a limit of this program: more than %s elements are open (--max-depth)",
-                  bytes_text(&count));
+        bytes_add_count(&count, reader->most_depth);
+        fault_set(reader->fault, FAULT_OUTSIDE, place_of(&reader->start.position),
+                  "over a limit of this program: more than %s elements are open (--max-depth)", bytes_text(&count));
         bytes_free(&count);
     }
 }
 
+/* How many open namespaces libxml2 looks at for the names of a tag. */
+static uint64_t searched_for(const struct reader *reader, int attribute_count) {
+    return ((uint64_t)attribute_count + 1) * (uint64_t)reader->feed.parser->nsNr / 2;
+}
+
 /* Counts what libxml2 takes for a tag beside its length: it looks for each name in the open namespaces, and adds the attributes that are there by default. */
 static void count_costs(struct reader *reader, int attribute_count, int default_count, const xmlChar **attributes) {
-    uint64_t names = (uint64_t)attribute_count + 1;
     uint64_t defaults = (uint64_t)default_count;
-    reader->searched += names * (uint64_t)reader->feed.parser->nsNr / 2;
+    reader->searched += searched_for(reader, attribute_count);
     if (reader->searched > SEARCHED && reader->searched / MOST_SEARCHED > feed_offset(&reader->feed) + reader->declarations.loaded) {
-        fault_set(reader->fault, FAULT_OUTSIDE, place_of(&reader->tag), "over a limit of this program: too many declarations of namespaces are in scope");
+        fault_set(reader->fault, FAULT_OUTSIDE, place_of(&reader->start.position), "over a limit of this program: too many declarations of namespaces are in scope");
     }
     if (default_count == 0) {
         return;
@@ -302,72 +335,135 @@ static void count_costs(struct reader *reader, int attribute_count, int default_
         cost += at[3] == NULL ? 0 : (uint64_t)(at[4] - at[3]);
     }
     if (!declarations_count(&reader->declarations, cost)) {
-        fault_set(reader->fault, FAULT_OUTSIDE, place_of(&reader->tag), "attributes by default of more than 100 times the document's length: outside the profile");
+        fault_set(reader->fault, FAULT_OUTSIDE, place_of(&reader->start.position), "attributes by default of more than 100 times the document's length: outside the profile");
     }
 }
 
 /* Hands the start to the receiver. A name that is no QName is a fault, if no other is found. */
 static void hand_start(struct reader *reader, const struct start_event *start) {
     bool may_break = reader->has_bad_name || reader->has_double || reader->has_undeclared || start->declaration_count > 0;
-    if (reader->sink->checks_names && may_break) {
+    if (reader->sink.checks_names && may_break) {
         check_names(reader, start);
     }
     if (is_good(reader)) {
-        go_on(reader, reader->sink->start(reader->sink->context, start));
+        reader->sink.start(reader->sink.context, start);
     }
     if (reader->has_bad_name) {
         flush(reader); /* the receiver comes first: it may know that too, and say more */
-        fault_set(reader->fault, FAULT_MALFORMED, place_of(&reader->tag), "malformed XML: a name that is no QName of Namespaces in XML");
+        fault_set(reader->fault, FAULT_MALFORMED, place_of(&reader->start.position), "malformed XML: a name that is no QName of Namespaces in XML");
     }
 }
 
+/* Takes any start tag. */
+static SELDOM void take_any_start(void *context, const xmlChar *local, const xmlChar *prefix, const xmlChar *uri, int namespace_count,
+                                  const xmlChar **namespaces, int attribute_count, int default_count, const xmlChar **attributes) {
+    struct reader *reader = context;
+    struct start_event *start = &reader->start;
+    if (is_in_document(reader)) {
+        set_tag(reader);
+    } else {
+        set_other_tag(reader);
+    }
+    count_open(reader);
+    count_costs(reader, attribute_count, default_count, attributes);
+    reader->feed.unfinished = 0;
+    add_attributes(reader, start, attribute_count, attributes);
+    start->name = name_of(reader, local, prefix, uri);
+    add_declarations(reader, start, namespace_count, namespaces);
+    if (is_good(reader)) {
+        hand_start(reader, start);
+    }
+    keep_name(reader, start->name);
+    reader->has_double = false;
+    reader->has_undeclared = false;
+}
+
+/* Sets the attributes of a tag if their names are known, and there is room. */
+static inline bool set_known_attributes(struct reader *reader, int count, const xmlChar **attributes) {
+    if ((size_t)count > reader->attribute_capacity) {
+        return false;
+    }
+    struct event_attribute *to = reader->attributes;
+    for (int at = 0; at < count; at++, to++, attributes += 5) {
+        const struct known_name *slot = known_slot(&reader->names, attributes[0]);
+        if (!is_known(slot, attributes[0], attributes[1], attributes[2])) {
+            return false;
+        }
+        *to = (struct event_attribute){slot->name, {(const char *)attributes[3], (size_t)(attributes[4] - attributes[3])}};
+    }
+    reader->start.attribute_count = (size_t)count;
+    return true;
+}
+
+/* Takes a start tag, as take_text does a text. It is usual if it is in the document, its names are known, and it has only attributes that are written. */
 static void take_start(void *context, const xmlChar *local, const xmlChar *prefix, const xmlChar *uri, int namespace_count, const xmlChar **namespaces,
                        int attribute_count, int default_count, const xmlChar **attributes) {
     struct reader *reader = context;
     if (!is_good(reader)) {
         return;
     }
+    const struct known_name *slot = known_slot(&reader->names, local);
+    uint64_t searched = reader->searched + searched_for(reader, attribute_count);
+    bool may_break = reader->has_bad_name || reader->has_double || reader->depth >= reader->most_depth || searched > SEARCHED;
+    bool has_others = namespace_count > 0 || default_count > 0 || reader->declarations.default_count > 0;
+    if (may_break || has_others || !is_in_document(reader) || !is_known(slot, local, prefix, uri) ||
+        !set_known_attributes(reader, attribute_count, attributes)) {
+        take_any_start(context, local, prefix, uri, namespace_count, namespaces, attribute_count, default_count, attributes);
+        return;
+    }
     set_tag(reader);
-    count_open(reader);
-    count_costs(reader, attribute_count, default_count, attributes);
+    reader->depth++;
+    reader->searched = searched;
     reader->feed.unfinished = 0;
-    struct start_event start;
-    start.position = reader->tag;
-    const struct event_name *name = name_of(reader, local, prefix, uri);
-    start.name = *name;
-    add_declarations(reader, &start, namespace_count, namespaces);
-    add_attributes(reader, &start, attribute_count, attributes);
-    if (is_good(reader)) {
-        hand_start(reader, &start);
-    }
-    keep_name(reader, name);
-    reader->has_double = false;
-    reader->has_undeclared = false;
+    reader->start.name = &slot->name;
+    reader->start.declaration_count = 0;
+    reader->start.attributes = reader->attributes;
+    reader->sink.start(reader->sink.context, &reader->start);
 }
 
-/* The position of an end tag. Of an empty element it is behind its tag. */
-static struct position end_position(struct reader *reader) {
-    struct feed *feed = &reader->feed;
-    uint64_t end = feed_offset(feed);
-    if (!is_in_document(reader)) {
-        return (struct position){feed, feed_settle(feed, end), NULL, 0};
-    }
-    feed_move(feed, end);
-    bool is_empty = reader->is_empty;
+/* Sets the position of an end tag in the document. Of an empty element it is behind its tag. */
+static void set_end(struct reader *reader) {
+    const xmlParserInput *input = reader->feed.parser->input;
+    reader->end.at = feed_offset_in(input, input->cur);
+    reader->end.blanks = reader->is_empty ? 0 : BEFORE_END_TAG;
     reader->is_empty = false;
-    return (struct position){feed, end, is_empty ? NULL : "</", 0};
+    feed_move(&reader->feed, reader->end.at);
 }
 
+/* Hands an end to the receiver. */
+static void hand_end(struct reader *reader, const struct event_name *name) {
+    reader->depth--;
+    reader->feed.unfinished = 0;
+    reader->sink.end(reader->sink.context, &reader->end, name);
+}
+
+/* Takes any end. */
+static SELDOM void take_any_end(void *context, const xmlChar *local, const xmlChar *prefix, const xmlChar *uri) {
+    struct reader *reader = context;
+    const struct event_name *name = name_of(reader, local, prefix, uri);
+    if (is_in_document(reader)) {
+        set_end(reader);
+    } else {
+        reader->end.at = feed_settle(&reader->feed, feed_offset(&reader->feed));
+        reader->end.blanks = 0;
+    }
+    hand_end(reader, name);
+    keep_name(reader, name);
+}
+
+/* Takes an end, as take_text does a text. */
 static void take_end(void *context, const xmlChar *local, const xmlChar *prefix, const xmlChar *uri) {
     struct reader *reader = context;
-    if (is_good(reader)) {
-        const struct event_name *name = known_name(&reader->names, reader->feed.parser->dict, local, prefix, uri);
-        struct position position = end_position(reader);
-        reader->depth--;
-        reader->feed.unfinished = 0;
-        go_on(reader, reader->sink->end(reader->sink->context, &position, name));
-        keep_name(reader, name);
+    const struct known_name *slot = known_slot(&reader->names, local);
+    if (!is_good(reader)) {
+        return;
     }
+    if (!is_in_document(reader) || !is_known(slot, local, prefix, uri)) {
+        take_any_end(context, local, prefix, uri);
+        return;
+    }
+    set_end(reader);
+    hand_end(reader, &slot->name);
 }
 
 /* The position of an instruction. */
@@ -382,14 +478,14 @@ static struct position instruction_position(struct reader *reader) {
         begin = feed_byte(feed, begin + 1) == '?' ? begin : feed_last(feed, end, "<?");
         feed_move(feed, end);
     }
-    return (struct position){feed, begin, NULL, 0};
+    return (struct position){feed, begin, 0};
 }
 
 static void take_instruction(void *context, const xmlChar *target, const xmlChar *data) {
     struct reader *reader = context;
     if (is_good(reader)) {
         struct position position = instruction_position(reader);
-        go_on(reader, reader->sink->instruction(reader->sink->context, &position, span_of(target), span_of(data)));
+        reader->sink.instruction(reader->sink.context, &position, span_of(target), span_of(data));
     }
 }
 
@@ -639,7 +735,7 @@ static void read_by_libxml2(struct reader *reader) {
     void *old_context = xmlStructuredErrorContext;
     current = reader;
     xmlSetStructuredErrorFunc(NULL, ignore_error);
-    if (declarations_open(&reader->declarations, &reader->feed, reader->sink)) {
+    if (declarations_open(&reader->declarations, &reader->feed, &reader->sink)) {
         read_all(reader);
     } else {
         out_of_memory(reader);
@@ -650,19 +746,30 @@ static void read_by_libxml2(struct reader *reader) {
     parser_memory_end(&reader->memory);
 }
 
+static void open_reader(struct reader *reader, const struct byte_source *source, const struct event_sink *sink, struct fault *fault) {
+    reader->sink = *sink;
+    reader->fault = fault;
+    reader->most_depth = sink->depth == 0 ? USUAL_DEPTH : sink->depth;
+#if LIBXML_VERSION < 20911
+    reader->most_depth = reader->most_depth < USUAL_DEPTH ? reader->most_depth : USUAL_DEPTH; /* these call themselves for an element in an element */
+#endif
+    feed_open(&reader->feed, source, fault);
+    reader->feed.keep = keep;
+    reader->feed.before_read = before_read;
+    reader->feed.most = sink->memory == 0 ? USUAL_MEMORY : sink->memory;
+    reader->feed.context = reader;
+    reader->start.position.feed = &reader->feed;
+    reader->text.position.feed = &reader->feed;
+    reader->end.feed = &reader->feed;
+}
+
 void read_events(const struct byte_source *source, const struct event_sink *sink, struct fault *fault) {
     struct reader *reader = calloc(1, sizeof *reader);
     if (reader == NULL) {
         fault_set(fault, FAULT_MEMORY, (struct place){0, 0}, "out of memory");
         return;
     }
-    reader->sink = sink;
-    reader->fault = fault;
-    feed_open(&reader->feed, source, fault);
-    reader->feed.keep = keep;
-    reader->feed.before_read = before_read;
-    reader->feed.most = sink->memory == 0 ? USUAL_MEMORY : sink->memory;
-    reader->feed.context = reader;
+    open_reader(reader, source, sink, fault);
     read_by_libxml2(reader);
     feed_close(&reader->feed);
     free(reader->attributes);

@@ -10,9 +10,11 @@ struct feed;
 struct position {
     struct feed *feed;
     uint64_t at;
-    const char *mark; /* it is where this text is last before `at`; NULL: it is at `at` */
-    size_t blanks;    /* it is at the first of so many bytes that is no blank, if one is none */
+    size_t blanks; /* it is at the first of so many bytes from `at` on that is no blank, or at `at` if all are blanks; or one of these: */
 };
+
+#define BEFORE_TAG SIZE_MAX           /* it is where `<` is last before `at` */
+#define BEFORE_END_TAG (SIZE_MAX - 1) /* it is where `</` is last before `at` */
 
 /* The place of an event, while the receiver has the event. Events that come later have to be asked for later. */
 struct place place_of(const struct position *position);
@@ -40,7 +42,7 @@ struct event_declaration {
 
 struct start_event {
     struct position position;
-    struct event_name name;
+    const struct event_name *name;
     const struct event_declaration *declarations; /* also those that are there by default */
     size_t declaration_count;
     const struct event_attribute *attributes; /* without the declarations */
@@ -57,12 +59,12 @@ struct text_event {
 /* The text of an event that came since `keep`, if it is raw and has this position and length. */
 struct span text_at(const struct position *position, size_t length);
 
-/* The receiver. Each function but `note`, `flush`, `keep` and `held` returns false if no more is wanted. */
+/* The receiver. If it wants no more, it sets the fault of the reading. */
 struct event_sink {
-    bool (*start)(void *context, const struct start_event *start);
-    bool (*text)(void *context, const struct text_event *text);
-    bool (*end)(void *context, const struct position *position, const struct event_name *name);
-    bool (*instruction)(void *context, const struct position *position, struct span target, struct span data);
+    void (*start)(void *context, const struct start_event *start);
+    void (*text)(void *context, const struct text_event *text);
+    void (*end)(void *context, const struct position *position, const struct event_name *name);
+    void (*instruction)(void *context, const struct position *position, struct span target, struct span data);
     void (*note)(void *context, struct place place, const char *what); /* what is left out of the document without harm to its form */
     void (*flush)(void *context); /* comes before more of the document is read, which may take long; NULL: not wanted */
     void (*keep)(void *context);  /* comes before names, raw texts and places of earlier events vanish, also after a fault; NULL: not wanted */

@@ -141,8 +141,8 @@ struct place feed_place(struct feed *feed, uint64_t offset) {
 
 static uint64_t offset_of(const struct position *position) {
     const struct feed *feed = position->feed;
-    if (position->mark != NULL) {
-        return feed_last(feed, position->at, position->mark);
+    if (position->blanks >= BEFORE_END_TAG) {
+        return feed_last(feed, position->at, position->blanks == BEFORE_TAG ? "<" : "</");
     }
     size_t blanks = 0;
     while (blanks < position->blanks && is_blank(feed_byte(feed, position->at + blanks))) {

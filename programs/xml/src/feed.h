@@ -63,6 +63,11 @@ void feed_close(struct feed *feed);
 /* Reads for libxml2, as its input callback. */
 int feed_read(void *feed, char *bytes, int length);
 
+/* The offset of a pointer into the text that an input of libxml2 has of the document. */
+static inline uint64_t feed_offset_in(const xmlParserInput *input, const xmlChar *pointer) {
+    return (uint64_t)input->consumed + (uint64_t)(pointer - input->base);
+}
+
 /* The offset at which libxml2 is in the document. */
 static inline uint64_t feed_offset(const struct feed *feed) {
     if (feed->is_away) {
@@ -72,20 +77,12 @@ static inline uint64_t feed_offset(const struct feed *feed) {
         return feed->begin + feed->given;
     }
     const xmlParserInput *input = feed->parser->inputTab[0];
-    return (uint64_t)input->consumed + (uint64_t)(input->cur - input->base);
+    return feed_offset_in(input, input->cur);
 }
 
-/* Whether the pointer is into the text of the document as libxml2 has it. Then sets its offset. */
-static inline bool feed_offset_of(const struct feed *feed, const xmlChar *pointer, uint64_t *offset) {
-    if (feed->parser->inputNr < 1 || feed->is_away) {
-        return false;
-    }
-    const xmlParserInput *input = feed->parser->inputTab[0];
-    if (pointer < input->base || pointer >= input->end) {
-        return false;
-    }
-    *offset = (uint64_t)input->consumed + (uint64_t)(pointer - input->base);
-    return true;
+/* Whether libxml2 reads the document itself, and not the text of an entity. */
+static inline bool feed_is_read(const struct feed *feed) {
+    return feed->parser->depth == 0 && feed->parser->inputNr == 1 && !feed->is_away;
 }
 
 /* The byte at the offset, which may be in the beginning of markup that is not kept; 0: it is not kept. */

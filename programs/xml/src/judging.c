@@ -16,12 +16,8 @@ enum {
  * and lengths, since that costs less than places and texts. */
 struct step {
     struct position position;
-    struct event_name name;
+    const struct event_name *name;
     struct position before; /* of the text or the start tag directly before it, if one is there */
-    size_t raw;     /* how many bytes that text has in the document at `before`; 0: it is kept */
-    size_t kept_at; /* where it begins in the judge's `text`, .. */
-    size_t kept;    /* .. and how many bytes are there */
-    size_t text_at; /* where it begins in the log */
     size_t at;      /* where the start or end begins in the log */
     bool has_text;
     bool has_tag;   /* nothing came behind the start tag */
@@ -30,6 +26,10 @@ struct step {
     bool is_known;  /* the place of `before` is known */
     bool is_end;
     bool is_logged; /* with all before it */
+    size_t raw;     /* of the text: how many bytes it has in the document at `before`; 0: it is kept */
+    size_t kept_at; /* where it begins in the judge's `text`, .. */
+    size_t kept;    /* .. and how many bytes are there */
+    size_t text_at; /* where it begins in the log */
 };
 
 /* A document that is being judged. */
@@ -41,9 +41,10 @@ struct judging {
     struct finding found; /* where the document is invalid, if that is known */
     rncv_verdict verdict;
     uint64_t number; /* of the starts and ends that were passed: it is the place of the last one for the library */
-    size_t passed;   /* how many of these the library was not asked about */
-    struct step steps[MOST_STEPS + 1]; /* these, and the one that comes next */
+    struct step steps[MOST_STEPS + 1]; /* those that the library was not asked about, .. */
+    struct step *next; /* .. and the one that comes next */
     struct place before; /* the place that the first one knows */
+    bool has_ids;    /* IDs are checked */
     bool has_begun; /* a byte of the document was read, and this is the first one */
     char first;
 };
@@ -94,20 +95,16 @@ int status_of(enum verdict verdict) {
     }
 }
 
-static bool out_of_memory(struct judging *judging) {
+static SELDOM void out_of_memory(struct judging *judging) {
     fault_set(judging->fault, FAULT_MEMORY, (struct place){0, 0}, "out of memory");
-    return false;
 }
 
-/* Whether the library has taken an event. What comes from a parser breaks no clause, if its names do not, and these were checked. */
-static bool is_taken(struct judging *judging, int32_t status) {
-    if (status == RNCV_DONE) {
-        return true;
-    }
+/* The library has not taken an event. What comes from a parser breaks no clause, if its names do not, and these were checked. */
+static SELDOM void is_not_taken(struct judging *judging, int32_t status) {
     if (status == RNCV_MALFORMED) {
         fault_set(judging->fault, FAULT_DEVICE, (struct place){0, 0}, "the library refuses what libxml2 has read");
     }
-    return out_of_memory(judging);
+    out_of_memory(judging);
 }
 
 static void add_written(struct bytes *written, const struct event_name *name) {
@@ -124,13 +121,9 @@ static size_t blanks_of(struct span text) {
     return at;
 }
 
-/* The start or end that comes next. */
-static inline struct step *next_step(struct judging *judging) {
-    return &judging->steps[judging->passed];
-}
-
 static struct span kept_text(const struct judging *judging, const struct step *step) {
-    return step->kept == 0 ? (struct span){"", 0} : (struct span){judging->judge->text.data + step->kept_at, step->kept};
+    bool is_there = step->has_text && step->kept > 0;
+    return is_there ? (struct span){judging->judge->text.data + step->kept_at, step->kept} : (struct span){"", 0};
 }
 
 /* Drops the blanks before what is kept of a text. Nothing is kept behind it. */
@@ -182,7 +175,7 @@ static void keep_text(struct judging *judging, struct step *step, struct span te
 
 /* Keeps a text that is only in the document so far. Nothing is kept behind it. */
 static void keep_raw(struct judging *judging, struct step *step) {
-    if (step->raw > 0) {
+    if (step->has_text && step->raw > 0) {
         struct span text = text_at(&step->before, step->raw);
         step->kept_at = judging->judge->text.length;
         step->raw = 0;
@@ -193,11 +186,10 @@ static void keep_raw(struct judging *judging, struct step *step) {
 /* Notes what is at the start or end after which nothing valid can follow. A fault of an element without content is reported where its tag begins. */
 static bool note_finding(struct judging *judging, struct step *step) {
     struct finding *found = &judging->found;
-    judging->judge->text.length = step->kept_at + step->kept; /* what is kept of later texts is needed no more */
+    judging->judge->text.length = step->has_text && step->kept > 0 ? step->kept_at + step->kept : 0; /* the others are needed no more */
     keep_raw(judging, step);
     drop_blanks(judging, step);
     struct span text = kept_text(judging, step);
-    found->is_there = true;
     found->is_end = step->is_end;
     found->has_text = text.length > 0;
     if (step->has_text || step->has_tag) {
@@ -208,11 +200,11 @@ static bool note_finding(struct judging *judging, struct step *step) {
     found->at = step->at;
     found->text_at = step->has_text ? step->text_at : step->at;
     bytes_add(&found->text, text.data, text.length);
-    add_written(&found->name, &step->name);
+    add_written(&found->name, step->name);
     found->is_cut = step->is_cut;
-    found->uri_length = step->name.uri.length;
-    bytes_add(&found->expanded, step->name.uri.data, step->name.uri.length);
-    bytes_add(&found->expanded, step->name.local.data, step->name.local.length);
+    found->uri_length = step->name->uri.length;
+    bytes_add(&found->expanded, step->name->uri.data, step->name->uri.length);
+    bytes_add(&found->expanded, step->name->local.data, step->name->local.length);
     bool is_told = expected_get(&judging->judge->schema, &found->expected);
     return is_told && !found->name.failed && !found->expanded.failed && !found->text.failed && !judging->judge->text.failed;
 }
@@ -221,40 +213,43 @@ static bool note_finding(struct judging *judging, struct step *step) {
 static void begin_steps(struct judging *judging) {
     struct bytes *kept = &judging->judge->text;
     struct step *first = &judging->steps[0];
-    *first = *next_step(judging);
-    bytes_cut_front(kept, first->kept > 0 ? first->kept_at : kept->length);
+    *first = *judging->next;
+    bytes_cut_front(kept, kept_text(judging, first).length > 0 ? first->kept_at : kept->length);
     first->kept_at = 0;
-    judging->passed = 0;
+    judging->next = first;
 }
 
 /* Looks whether nothing valid can follow one of the starts and ends that were passed. What the library says of it does not change with later ones. */
-static bool look(struct judging *judging) {
+static void look(struct judging *judging) {
     uint64_t since = 0;
-    if (judging->passed == 0 || judging->found.is_there) {
-        return true;
+    size_t passed = (size_t)(judging->next - judging->steps);
+    if (passed == 0 || judging->found.is_there) {
+        return;
     }
     if (rncv_events_invalid_since(&judging->judge->schema, &since) != RNCV_DONE) {
-        return out_of_memory(judging);
+        out_of_memory(judging);
+        return;
     }
-    uint64_t before = judging->number - judging->passed;
     if (since == 0) {
         begin_steps(judging);
-    } else if (since > before && since <= judging->number) {
-        return note_finding(judging, &judging->steps[since - before - 1]) || out_of_memory(judging);
-    } else { /* one that came before, whose place is no longer known */
-        judging->found.is_there = true;
-        judging->found.is_lost = true;
+        return;
     }
-    return true;
+    uint64_t before = judging->number - passed;
+    judging->found.is_there = true;
+    judging->found.is_lost = since <= before || since > judging->number; /* the place of another one is not known */
+    if (!judging->found.is_lost && !note_finding(judging, &judging->steps[since - before - 1])) {
+        out_of_memory(judging);
+    }
 }
 
 /* Keeps what is needed of the texts and names that vanish. */
 static void keep(void *context) {
     struct judging *judging = context;
-    if (!look(judging) || judging->found.is_there) {
+    look(judging);
+    if (judging->found.is_there) {
         return;
     }
-    struct step *step = next_step(judging);
+    struct step *step = judging->next;
     if ((step->has_text || step->has_tag) && !step->is_known) {
         judging->before = place_of(&step->before);
         step->is_known = true;
@@ -263,53 +258,73 @@ static void keep(void *context) {
 }
 
 /* Ends the step of a start or an end that was passed, and begins the next one. */
-static bool end_step(struct judging *judging, struct step *step, const struct position *position, const struct event_name *name) {
+static inline void end_step(struct judging *judging, const struct position *position, const struct event_name *name, bool is_end) {
+    struct step *step = judging->next;
+    struct step *next = step + 1;
     step->position = *position;
-    step->name = *name;
+    step->name = name;
+    step->is_end = is_end;
     step->is_logged = !judging->judge->log.is_full;
-    judging->passed++;
-    struct step *next = next_step(judging);
     next->before = *position;
-    next->raw = 0;
-    next->kept_at = 0;
-    next->kept = 0;
     next->has_text = false;
-    next->has_tag = !step->is_end;
+    next->has_tag = !is_end;
     next->is_cut = false;
     next->is_begun = false;
     next->is_known = false;
-    return judging->passed < MOST_STEPS || look(judging);
+    judging->next = next;
+    if (next == judging->steps + MOST_STEPS) {
+        look(judging);
+    }
 }
 
-static bool take_start(void *context, const struct start_event *start) {
+/* Takes the IDs of a tag. */
+static SELDOM void take_ids(struct judging *judging, const struct start_event *start) {
+    if (!id_check_take(&judging->judge->ids, start)) {
+        out_of_memory(judging);
+    }
+}
+
+static void take_start(void *context, const struct start_event *start) {
     struct judging *judging = context;
     struct judge *judge = judging->judge;
-    struct step *step = next_step(judging);
     bool is_found = judging->found.is_there;
     if (!is_found) {
         event_log_declarations(&judge->log, start);
     }
-    step->at = judge->log.bytes.length;
-    step->is_end = false;
-    int32_t status = library_start(&judge->schema, &judge->room, ++judging->number, &start->name, start->attributes, start->attribute_count);
-    if (status != RNCV_DONE || is_found) {
-        return is_taken(judging, status);
+    judging->next->at = judge->log.bytes.length;
+    int32_t status = library_start(&judge->schema, &judge->room, ++judging->number, start->name, start->attributes, start->attribute_count);
+    if (status != RNCV_DONE) {
+        is_not_taken(judging, status);
+    } else if (!is_found) {
+        event_log_start(&judge->log, start);
+        if (judging->has_ids) {
+            take_ids(judging, start);
+        }
+        end_step(judging, &start->position, start->name, false);
     }
-    event_log_start(&judge->log, start);
-    if (judge->shared->ids != NULL && !id_check_take(&judge->ids, start)) {
-        return out_of_memory(judging);
-    }
-    return end_step(judging, step, &start->position, &start->name);
 }
 
-/* Takes the first piece of a text if it is not in the document as it is, or a later piece. */
-static void take_piece(struct judging *judging, struct step *step, const struct text_event *event) {
-    if (judging->found.is_there) {
-        return;
-    }
+/* Begins a text. Its first piece is mostly in the document as it is: then it is not copied. */
+static inline void begin_text(struct judging *judging, const struct text_event *event) {
+    struct step *step = judging->next;
+    step->before = event->position;
+    step->raw = event->is_raw ? event->text.length : 0;
+    step->kept = 0;
+    step->kept_at = judging->judge->text.length;
+    step->text_at = judging->judge->log.bytes.length;
+    step->has_text = true;
+    step->has_tag = false;
+    step->is_known = false;
+}
+
+/* Keeps a piece of a text, unless it is one that is in the document. */
+static void keep_piece(struct judging *judging, const struct text_event *event) {
+    struct step *step = judging->next;
     if (!step->has_text) {
-        step->text_at = judging->judge->log.bytes.length;
-        step->kept_at = judging->judge->text.length;
+        begin_text(judging, event);
+        if (event->is_raw) {
+            return;
+        }
     } else {
         keep_raw(judging, step);
         drop_blanks(judging, step);
@@ -318,53 +333,55 @@ static void take_piece(struct judging *judging, struct step *step, const struct 
         step->before = event->position;
         step->is_known = false;
     }
-    step->has_text = true;
-    step->has_tag = false;
     keep_text(judging, step, event->text);
 }
 
-static bool take_text(void *context, const struct text_event *event) {
-    struct judging *judging = context;
+/* Takes any piece of a text. */
+static __attribute__((noinline)) void take_piece(struct judging *judging, const struct text_event *event) {
     struct judge *judge = judging->judge;
-    struct step *step = next_step(judging);
-    if (step->has_text || !event->is_raw) {
-        take_piece(judging, step, event);
-    } else {
-        step->before = event->position;
-        step->raw = event->text.length;
-        step->text_at = judge->log.bytes.length;
-        step->has_text = true;
-        step->has_tag = false;
-        step->is_known = false;
-    }
     if (!judging->found.is_there) {
+        keep_piece(judging, event);
         event_log_text(&judge->log, event->text);
     }
-    return is_taken(judging, library_text(&judge->schema, event->text));
+    int32_t status = library_text(&judge->schema, event->text);
+    if (status != RNCV_DONE) {
+        is_not_taken(judging, status);
+    }
 }
 
-static bool take_end(void *context, const struct position *position, const struct event_name *name) {
+/* Takes a piece of a text. Most of a large document are the first of their text, and behind what the log has. If the library does not take one of these, it
+ * does not take the next start or end either, and says so there. */
+static void take_text(void *context, const struct text_event *event) {
     struct judging *judging = context;
     struct judge *judge = judging->judge;
-    struct step *step = next_step(judging);
-    step->at = judge->log.bytes.length;
-    step->is_end = true;
-    int32_t status = rncv_events_end(&judge->schema, ++judging->number);
-    if (status != RNCV_DONE || judging->found.is_there) {
-        return is_taken(judging, status);
+    if (judging->next->has_text || judging->found.is_there || !event->is_raw || !judge->log.is_full) {
+        take_piece(judging, event);
+        return;
     }
-    event_log_end(&judge->log);
-    return end_step(judging, step, position, name);
+    begin_text(judging, event);
+    library_text(&judge->schema, event->text);
+}
+
+static void take_end(void *context, const struct position *position, const struct event_name *name) {
+    struct judging *judging = context;
+    struct judge *judge = judging->judge;
+    judging->next->at = judge->log.bytes.length;
+    int32_t status = rncv_events_end(&judge->schema, ++judging->number);
+    if (status != RNCV_DONE) {
+        is_not_taken(judging, status);
+    } else if (!judging->found.is_there) {
+        event_log_end(&judge->log);
+        end_step(judging, position, name, true);
+    }
 }
 
 /* An instruction is nothing for the judge. */
-static bool take_instruction(void *context, const struct position *position, struct span target, struct span data) {
+static void take_instruction(void *context, const struct position *position, struct span target, struct span data) {
     struct judging *judging = context;
     (void)position;
     (void)target;
     (void)data;
-    next_step(judging)->has_tag = false;
-    return true;
+    judging->next->has_tag = false;
 }
 
 /* The bytes that grow with the document: those of the IDs. */
@@ -534,6 +551,8 @@ static void judge_either(struct judge *judge, const struct byte_source *given, c
     judging.answer = answer;
     judging.fault = &fault;
     judging.verdict.kind = -1;
+    judging.next = judging.steps;
+    judging.has_ids = judge->shared->ids != NULL;
     event_log_clear(&judge->log);
     if (judge->text.failed) {
         bytes_free(&judge->text);

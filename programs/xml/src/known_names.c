@@ -12,7 +12,7 @@ static bool stays(xmlDictPtr dictionary, const xmlChar *text) {
 const struct event_name *known_name_new(struct known_names *names, struct known_name *slot, xmlDictPtr dictionary, const xmlChar *local, const xmlChar *prefix,
                                         const xmlChar *uri) {
     struct event_name name = {span_of(prefix), span_of(local), span_of(uri)};
-    if (local == NULL || !stays(dictionary, local) || !stays(dictionary, prefix) || !stays(dictionary, uri)) {
+    if (local == NULL || (name.prefix.length > 0 && name.uri.length == 0) || !stays(dictionary, local) || !stays(dictionary, prefix) || !stays(dictionary, uri)) {
         names->other = name;
         return &names->other;
     }
