@@ -204,11 +204,12 @@ static bool has_blanks_alone(struct span text) {
     return at == text.length;
 }
 
-static void take_text(void *context, const struct text_event *event) {
+static void take_text(void *context, struct position position, struct span text, bool is_raw) {
     struct writer *writer = context;
-    bool is_blank = (!writer->has_text || writer->is_blank) && has_blanks_alone(event->text);
+    (void)is_raw;
+    bool is_blank = (!writer->has_text || writer->is_blank) && has_blanks_alone(text);
     if (!writer->has_text || (writer->is_blank && !is_blank)) {
-        writer->text_place = place_of(&event->position);
+        writer->text_place = place_of(position);
     }
     writer->is_blank = is_blank;
     if (!writer->has_text) {
@@ -217,11 +218,11 @@ static void take_text(void *context, const struct text_event *event) {
         writer->counts = false;
         bytes_add_byte(&writer->pyx, '-');
     }
-    add_escaped(&writer->pyx, event->text);
-    writer->text_bytes += event->text.length;
+    add_escaped(&writer->pyx, text);
+    writer->text_bytes += text.length;
     if (writer->pyx.failed) {
         out_of_memory(writer);
-    } else if (writer->text_bytes >= TEXT_CHARACTERS && held_characters(writer, event->text) >= TEXT_CHARACTERS) {
+    } else if (writer->text_bytes >= TEXT_CHARACTERS && held_characters(writer, text) >= TEXT_CHARACTERS) {
         text_ends(writer);
     }
 }
@@ -248,7 +249,7 @@ static void take_start(void *context, const struct start_event *start) {
     static const struct span xmlns = {"xmlns", 5};
     static const struct span none = {"", 0};
     struct writer *writer = context;
-    struct place place = place_of(&start->position);
+    struct place place = place_of(start->position);
     text_ends(writer);
     bytes_add_byte(&writer->pyx, '(');
     add_name(&writer->pyx, start->name);
@@ -264,7 +265,7 @@ static void take_start(void *context, const struct start_event *start) {
     }
 }
 
-static void take_end(void *context, const struct position *position, const struct event_name *name) {
+static void take_end(void *context, struct position position, const struct event_name *name) {
     struct writer *writer = context;
     text_ends(writer);
     bytes_add_byte(&writer->pyx, ')');
@@ -273,7 +274,7 @@ static void take_end(void *context, const struct position *position, const struc
 }
 
 /* An instruction vanishes. It has a line so that texts join across it. A long line is cut. */
-static void take_instruction(void *context, const struct position *position, struct span target, struct span data) {
+static void take_instruction(void *context, struct position position, struct span target, struct span data) {
     struct writer *writer = context;
     text_ends(writer);
     size_t begin = writer->pyx.length;

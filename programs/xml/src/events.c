@@ -24,9 +24,7 @@ struct reader {
     struct declarations declarations;
     struct event_sink sink;
     struct fault *fault;
-    struct start_event start; /* the last one, and the last of these */
-    struct text_event text;
-    struct position end;
+    struct start_event start; /* the last one */
     struct event_attribute *attributes; /* room for those of a tag */
     size_t attribute_capacity;
     struct event_declaration *declared; /* room for its declarations */
@@ -44,6 +42,18 @@ struct reader {
 
 /* The reader of this thread's document. libxml2 reports some errors without it. */
 static _Thread_local struct reader *current = NULL;
+
+struct place place_of(struct position position) {
+    return feed_place(&current->feed, feed_offset_of(&current->feed, position));
+}
+
+struct place earlier_place_of(struct position position) {
+    return feed_earlier_place(&current->feed, feed_offset_of(&current->feed, position));
+}
+
+struct span raw_text(struct position position) {
+    return feed_text(&current->feed, position.at, position.blanks);
+}
 
 static void out_of_memory(struct reader *reader) {
     fault_set(reader->fault, FAULT_MEMORY, (struct place){0, 0}, "out of memory");
@@ -89,11 +99,6 @@ static struct span span_of(const xmlChar *text) {
     return text == NULL ? (struct span){"", 0} : (struct span){(const char *)text, strlen((const char *)text)};
 }
 
-/* Whether libxml2 reads the document itself, and not the text of an entity. */
-static bool is_in_document(const struct reader *reader) {
-    return feed_is_read(&reader->feed);
-}
-
 /* How many blanks begin the text. */
 static size_t blanks_of(const char *text, size_t length) {
     size_t at = 0;
@@ -103,58 +108,54 @@ static size_t blanks_of(const char *text, size_t length) {
     return at;
 }
 
+/* Whether libxml2 reads the content of the document itself, and not that of an entity. */
+static inline bool is_in_content(const struct reader *reader) {
+    return reader->feed.parser->depth == 0 && reader->feed.parser->inputNr == 1;
+}
+
 /* Whether a piece of text is in the text of the document as libxml2 has it. */
-static bool is_raw(const struct reader *reader, const xmlChar *text) {
+static inline bool is_raw(const struct reader *reader, const xmlChar *text) {
     const xmlParserInput *input = reader->feed.parser->input;
-    return is_in_document(reader) && text >= input->base && text < input->end;
+    return is_in_content(reader) && text >= input->base && text < input->end;
 }
 
-/* Sets the position of a piece of text that is in the text of the document, and moves on behind it. */
-static void set_raw(struct reader *reader, const xmlChar *text, size_t length) {
-    struct text_event *event = &reader->text;
-    event->position.at = feed_offset_in(reader->feed.parser->input, text);
-    event->position.blanks = length;
-    event->is_raw = true;
-    feed_move(&reader->feed, event->position.at + length);
+/* Finds the position of such a piece, and moves on behind it. */
+static inline struct position raw_position(struct reader *reader, const xmlChar *text, size_t length) {
+    uint64_t begin = feed_offset_in(reader->feed.parser->input, text);
+    feed_move(&reader->feed, begin + length);
+    return (struct position){begin, length};
 }
 
-/* Sets the position of another piece, and moves on behind it. Where the document has the piece as it is, its blanks are there too. */
-static void set_other_text(struct reader *reader, size_t length) {
+/* Finds the position of another piece, and moves on behind it. Where the document has the piece as it is, its blanks are there too. */
+static struct position other_position(struct reader *reader, size_t length) {
     struct feed *feed = &reader->feed;
-    struct text_event *event = &reader->text;
     uint64_t end = feed_offset(feed);
     uint64_t begin = feed_settle(feed, end);
-    bool is_in = is_in_document(reader);
+    bool is_in = feed_is_read(feed);
     bool has_blanks = is_in && feed_byte(feed, begin) != '&';
     if (is_in) {
         begin += feed_byte(feed, begin) == '<' ? strlen("<![CDATA[") : 0;
         feed_move(feed, end);
     }
-    event->position.at = begin;
-    event->position.blanks = has_blanks ? length : 0;
-    event->is_raw = false;
+    return (struct position){begin, has_blanks ? length : 0};
 }
 
 /* Takes any piece of text. */
-static SELDOM void take_any_text(struct reader *reader, const xmlChar *text, size_t length) {
-    if (is_raw(reader, text)) {
-        set_raw(reader, text, length);
-    } else {
-        set_other_text(reader, length);
-    }
+static OUT_OF_LINE void take_any_text(struct reader *reader, const xmlChar *text, size_t length) {
+    bool has_raw = is_raw(reader, text);
+    struct position position = has_raw ? raw_position(reader, text, length) : other_position(reader, length);
     if (length == 0) {
         return;
     }
-    reader->text.text = (struct span){(const char *)text, length};
     reader->feed.unfinished += length;
     if (reader->feed.unfinished > LONG_TEXT && feed_is_over(&reader->feed)) {
-        feed_check_memory(&reader->feed, place_of(&reader->text.position));
+        feed_check_memory(&reader->feed, place_of(position));
         return;
     }
-    reader->sink.text(reader->sink.context, &reader->text);
+    reader->sink.text(reader->sink.context, position, (struct span){(const char *)text, length}, has_raw);
 }
 
-/* Takes a piece of text, without registers saved and without a call before the last one if it is usual: this is called most often. */
+/* Takes a piece of text. This is called most often: if the piece is usual, no registers are saved, and nothing is called before the receiver. */
 static void take_text(void *context, const xmlChar *text, int size) {
     struct reader *reader = context;
     size_t length = size > 0 ? (size_t)size : 0;
@@ -165,10 +166,8 @@ static void take_text(void *context, const xmlChar *text, int size) {
         take_any_text(reader, text, length);
         return;
     }
-    set_raw(reader, text, length);
-    reader->text.text = (struct span){(const char *)text, length};
     reader->feed.unfinished += length;
-    reader->sink.text(reader->sink.context, &reader->text);
+    reader->sink.text(reader->sink.context, raw_position(reader, text, length), (struct span){(const char *)text, length}, true);
 }
 
 /* Sets the position of a start tag in the document, and moves on behind it. */
@@ -298,7 +297,7 @@ static void check_names(struct reader *reader, const struct start_event *start) 
         if (words.failed) {
             out_of_memory(reader);
         }
-        fault_set_clause(reader->fault, clause, place_of(&start->position), text);
+        fault_set_clause(reader->fault, clause, place_of(start->position), text);
     }
     bytes_free(&words);
 }
@@ -309,7 +308,7 @@ static void count_open(struct reader *reader) {
     if (reader->depth > reader->most_depth) {
         struct bytes count = NO_BYTES;
         bytes_add_count(&count, reader->most_depth);
-        fault_set(reader->fault, FAULT_OUTSIDE, place_of(&reader->start.position),
+        fault_set(reader->fault, FAULT_OUTSIDE, place_of(reader->start.position),
                   "over a limit of this program: more than %s elements are open (--max-depth)", bytes_text(&count));
         bytes_free(&count);
     }
@@ -325,7 +324,7 @@ static void count_costs(struct reader *reader, int attribute_count, int default_
     uint64_t defaults = (uint64_t)default_count;
     reader->searched += searched_for(reader, attribute_count);
     if (reader->searched > SEARCHED && reader->searched / MOST_SEARCHED > feed_offset(&reader->feed) + reader->declarations.loaded) {
-        fault_set(reader->fault, FAULT_OUTSIDE, place_of(&reader->start.position), "over a limit of this program: too many declarations of namespaces are in scope");
+        fault_set(reader->fault, FAULT_OUTSIDE, place_of(reader->start.position), "over a limit of this program: too many declarations of namespaces are in scope");
     }
     if (default_count == 0) {
         return;
@@ -335,7 +334,7 @@ static void count_costs(struct reader *reader, int attribute_count, int default_
         cost += at[3] == NULL ? 0 : (uint64_t)(at[4] - at[3]);
     }
     if (!declarations_count(&reader->declarations, cost)) {
-        fault_set(reader->fault, FAULT_OUTSIDE, place_of(&reader->start.position), "attributes by default of more than 100 times the document's length: outside the profile");
+        fault_set(reader->fault, FAULT_OUTSIDE, place_of(reader->start.position), "attributes by default of more than 100 times the document's length: outside the profile");
     }
 }
 
@@ -350,16 +349,16 @@ static void hand_start(struct reader *reader, const struct start_event *start) {
     }
     if (reader->has_bad_name) {
         flush(reader); /* the receiver comes first: it may know that too, and say more */
-        fault_set(reader->fault, FAULT_MALFORMED, place_of(&reader->start.position), "malformed XML: a name that is no QName of Namespaces in XML");
+        fault_set(reader->fault, FAULT_MALFORMED, place_of(reader->start.position), "malformed XML: a name that is no QName of Namespaces in XML");
     }
 }
 
 /* Takes any start tag. */
-static SELDOM void take_any_start(void *context, const xmlChar *local, const xmlChar *prefix, const xmlChar *uri, int namespace_count,
+static OUT_OF_LINE void take_any_start(void *context, const xmlChar *local, const xmlChar *prefix, const xmlChar *uri, int namespace_count,
                                   const xmlChar **namespaces, int attribute_count, int default_count, const xmlChar **attributes) {
     struct reader *reader = context;
     struct start_event *start = &reader->start;
-    if (is_in_document(reader)) {
+    if (is_in_content(reader)) {
         set_tag(reader);
     } else {
         set_other_tag(reader);
@@ -406,7 +405,7 @@ static void take_start(void *context, const xmlChar *local, const xmlChar *prefi
     uint64_t searched = reader->searched + searched_for(reader, attribute_count);
     bool may_break = reader->has_bad_name || reader->has_double || reader->depth >= reader->most_depth || searched > SEARCHED;
     bool has_others = namespace_count > 0 || default_count > 0 || reader->declarations.default_count > 0;
-    if (may_break || has_others || !is_in_document(reader) || !is_known(slot, local, prefix, uri) ||
+    if (may_break || has_others || !is_in_content(reader) || !is_known(slot, local, prefix, uri) ||
         !set_known_attributes(reader, attribute_count, attributes)) {
         take_any_start(context, local, prefix, uri, namespace_count, namespaces, attribute_count, default_count, attributes);
         return;
@@ -421,33 +420,28 @@ static void take_start(void *context, const xmlChar *local, const xmlChar *prefi
     reader->sink.start(reader->sink.context, &reader->start);
 }
 
-/* Sets the position of an end tag in the document. Of an empty element it is behind its tag. */
-static void set_end(struct reader *reader) {
+/* Finds the position of an end tag in the document, and moves on behind it. Of an empty element it is behind its tag. */
+static inline struct position end_position(struct reader *reader) {
     const xmlParserInput *input = reader->feed.parser->input;
-    reader->end.at = feed_offset_in(input, input->cur);
-    reader->end.blanks = reader->is_empty ? 0 : BEFORE_END_TAG;
+    struct position position = {feed_offset_in(input, input->cur), reader->is_empty ? 0 : BEFORE_END_TAG};
     reader->is_empty = false;
-    feed_move(&reader->feed, reader->end.at);
+    feed_move(&reader->feed, position.at);
+    return position;
 }
 
 /* Hands an end to the receiver. */
-static void hand_end(struct reader *reader, const struct event_name *name) {
+static inline void hand_end(struct reader *reader, struct position position, const struct event_name *name) {
     reader->depth--;
     reader->feed.unfinished = 0;
-    reader->sink.end(reader->sink.context, &reader->end, name);
+    reader->sink.end(reader->sink.context, position, name);
 }
 
 /* Takes any end. */
-static SELDOM void take_any_end(void *context, const xmlChar *local, const xmlChar *prefix, const xmlChar *uri) {
+static OUT_OF_LINE void take_any_end(void *context, const xmlChar *local, const xmlChar *prefix, const xmlChar *uri) {
     struct reader *reader = context;
+    struct feed *feed = &reader->feed;
     const struct event_name *name = name_of(reader, local, prefix, uri);
-    if (is_in_document(reader)) {
-        set_end(reader);
-    } else {
-        reader->end.at = feed_settle(&reader->feed, feed_offset(&reader->feed));
-        reader->end.blanks = 0;
-    }
-    hand_end(reader, name);
+    hand_end(reader, is_in_content(reader) ? end_position(reader) : (struct position){feed_settle(feed, feed_offset(feed)), 0}, name);
     keep_name(reader, name);
 }
 
@@ -458,12 +452,11 @@ static void take_end(void *context, const xmlChar *local, const xmlChar *prefix,
     if (!is_good(reader)) {
         return;
     }
-    if (!is_in_document(reader) || !is_known(slot, local, prefix, uri)) {
+    if (!is_in_content(reader) || !is_known(slot, local, prefix, uri)) {
         take_any_end(context, local, prefix, uri);
         return;
     }
-    set_end(reader);
-    hand_end(reader, &slot->name);
+    hand_end(reader, end_position(reader), &slot->name);
 }
 
 /* The position of an instruction. */
@@ -471,21 +464,20 @@ static struct position instruction_position(struct reader *reader) {
     struct feed *feed = &reader->feed;
     uint64_t end = feed_offset(feed);
     uint64_t begin = feed_settle(feed, end);
-    if (is_in_document(reader)) {
+    if (feed_is_read(&reader->feed)) {
         while (blanks_of((char[]){feed_byte(feed, begin)}, 1) == 1) {
             begin++;
         }
         begin = feed_byte(feed, begin + 1) == '?' ? begin : feed_last(feed, end, "<?");
         feed_move(feed, end);
     }
-    return (struct position){feed, begin, 0};
+    return (struct position){begin, 0};
 }
 
 static void take_instruction(void *context, const xmlChar *target, const xmlChar *data) {
     struct reader *reader = context;
     if (is_good(reader)) {
-        struct position position = instruction_position(reader);
-        reader->sink.instruction(reader->sink.context, &position, span_of(target), span_of(data));
+        reader->sink.instruction(reader->sink.context, instruction_position(reader), span_of(target), span_of(data));
     }
 }
 
@@ -493,14 +485,14 @@ static void take_instruction(void *context, const xmlChar *target, const xmlChar
 static void take_comment(void *context, const xmlChar *text) {
     struct reader *reader = context;
     (void)text;
-    if (is_in_document(reader)) {
+    if (feed_is_read(&reader->feed)) {
         feed_move(&reader->feed, feed_offset(&reader->feed));
     }
 }
 
 /* What was read is no markup that goes on. */
 static void move_on(struct reader *reader) {
-    if (reader->fault->kind == FAULT_NONE && is_in_document(reader)) {
+    if (reader->fault->kind == FAULT_NONE && feed_is_read(&reader->feed)) {
         feed_move(&reader->feed, feed_offset(&reader->feed));
     }
 }
@@ -580,7 +572,7 @@ static xmlEntityPtr give_parameter(void *context, const xmlChar *name) {
 /* Where an error is: at the tag that does not match, at the reference to the entity in whose text it is, or where libxml2 is. */
 static struct place error_place(struct reader *reader, const parser_error *error) {
     struct feed *feed = &reader->feed;
-    if (!is_in_document(reader)) {
+    if (!feed_is_read(&reader->feed)) {
         return declarations_place(&reader->declarations);
     }
     uint64_t offset = feed_offset(feed);
@@ -758,9 +750,6 @@ static void open_reader(struct reader *reader, const struct byte_source *source,
     reader->feed.before_read = before_read;
     reader->feed.most = sink->memory == 0 ? USUAL_MEMORY : sink->memory;
     reader->feed.context = reader;
-    reader->start.position.feed = &reader->feed;
-    reader->text.position.feed = &reader->feed;
-    reader->end.feed = &reader->feed;
 }
 
 void read_events(const struct byte_source *source, const struct event_sink *sink, struct fault *fault) {

@@ -4,23 +4,20 @@
 
 #include "fault.h"
 
-struct feed;
-
-/* Where an event is. Its line and column are worked out when they are asked for, since most never are. */
+/* Where an event is in the document. Its line and column are worked out when they are asked for, since most never are. */
 struct position {
-    struct feed *feed;
-    uint64_t at;
+    uint64_t at; /* an offset in its text */
     size_t blanks; /* it is at the first of so many bytes from `at` on that is no blank, or at `at` if all are blanks; or one of these: */
 };
 
 #define BEFORE_TAG SIZE_MAX           /* it is where `<` is last before `at` */
 #define BEFORE_END_TAG (SIZE_MAX - 1) /* it is where `</` is last before `at` */
 
-/* The place of an event, while the receiver has the event. Events that come later have to be asked for later. */
-struct place place_of(const struct position *position);
+/* The place of an event of the document that this thread reads, while the receiver has the event. Events that come later have to be asked for later. */
+struct place place_of(struct position position);
 
-/* The place of an event that came since `keep`, in any order. */
-struct place earlier_place_of(const struct position *position);
+/* The place of one that came since `keep`, in any order. */
+struct place earlier_place_of(struct position position);
 
 /* A name. Its texts are there until the receiver returns from `keep`, and their data is never NULL. */
 struct event_name {
@@ -49,22 +46,14 @@ struct start_event {
     size_t attribute_count;
 };
 
-/* A text, or a part of one: those that follow each other are one. */
-struct text_event {
-    struct position position; /* of its first character that is no blank, or where it begins */
-    struct span text;
-    bool is_raw; /* the document has it as it is, and text_at gives it */
-};
-
-/* The text of an event that came since `keep`, if it is raw and has this position and length. */
-struct span text_at(const struct position *position, size_t length);
-
 /* The receiver. If it wants no more, it sets the fault of the reading. */
 struct event_sink {
     void (*start)(void *context, const struct start_event *start);
-    void (*text)(void *context, const struct text_event *text);
-    void (*end)(void *context, const struct position *position, const struct event_name *name);
-    void (*instruction)(void *context, const struct position *position, struct span target, struct span data);
+    /* A text, or a part of one: those that follow each other are one. The position is that of its first character that is no blank, or where it begins. If it
+     * is raw, the document has it as it is at the position, which has its length as `blanks`, and raw_text gives it again. */
+    void (*text)(void *context, struct position position, struct span text, bool is_raw);
+    void (*end)(void *context, struct position position, const struct event_name *name);
+    void (*instruction)(void *context, struct position position, struct span target, struct span data);
     void (*note)(void *context, struct place place, const char *what); /* what is left out of the document without harm to its form */
     void (*flush)(void *context); /* comes before more of the document is read, which may take long; NULL: not wanted */
     void (*keep)(void *context);  /* comes before names, raw texts and places of earlier events vanish, also after a fault; NULL: not wanted */
@@ -74,6 +63,9 @@ struct event_sink {
     size_t depth;      /* the most elements that may be open; 0: USUAL_DEPTH */
     size_t memory;     /* the most bytes that may be held of the document; 0: USUAL_MEMORY */
 };
+
+/* The text that came since `keep` with this position, if it is raw. */
+struct span raw_text(struct position position);
 
 /* The source of the XML. `read` writes at most `size` bytes, and their number to `length`: 0 at the end. False: it failed, and the fault says why. */
 struct byte_source {

@@ -139,20 +139,15 @@ struct place feed_place(struct feed *feed, uint64_t offset) {
     return feed->place;
 }
 
-static uint64_t offset_of(const struct position *position) {
-    const struct feed *feed = position->feed;
-    if (position->blanks >= BEFORE_END_TAG) {
-        return feed_last(feed, position->at, position->blanks == BEFORE_TAG ? "<" : "</");
+uint64_t feed_offset_of(const struct feed *feed, struct position position) {
+    if (position.blanks >= BEFORE_END_TAG) {
+        return feed_last(feed, position.at, position.blanks == BEFORE_TAG ? "<" : "</");
     }
     size_t blanks = 0;
-    while (blanks < position->blanks && is_blank(feed_byte(feed, position->at + blanks))) {
+    while (blanks < position.blanks && is_blank(feed_byte(feed, position.at + blanks))) {
         blanks++;
     }
-    return blanks < position->blanks ? position->at + blanks : position->at;
-}
-
-struct place place_of(const struct position *position) {
-    return feed_place(position->feed, offset_of(position));
+    return blanks < position.blanks ? position.at + blanks : position.at;
 }
 
 void feed_since(struct feed *feed) {
@@ -160,9 +155,7 @@ void feed_since(struct feed *feed) {
     feed->since = feed->place;
 }
 
-struct place earlier_place_of(const struct position *position) {
-    struct feed *feed = position->feed;
-    uint64_t offset = offset_of(position);
+struct place feed_earlier_place(struct feed *feed, uint64_t offset) {
     if (offset >= feed->place_at || is_in_mark(feed, offset)) {
         return feed_place(feed, offset);
     }
@@ -172,10 +165,9 @@ struct place earlier_place_of(const struct position *position) {
     return counted(feed->since, feed->text.data + (feed->since_at - feed->begin), feed->text.data + (offset - feed->begin));
 }
 
-struct span text_at(const struct position *position, size_t length) {
-    const struct feed *feed = position->feed;
-    bool is_there = position->at >= feed->begin && position->at + length <= end_of(feed);
-    return is_there ? (struct span){feed->text.data + (position->at - feed->begin), length} : (struct span){"", 0};
+struct span feed_text(const struct feed *feed, uint64_t offset, size_t length) {
+    bool is_there = offset >= feed->begin && offset + length <= end_of(feed);
+    return is_there ? (struct span){feed->text.data + (offset - feed->begin), length} : (struct span){"", 0};
 }
 
 uint64_t feed_settle(struct feed *feed, uint64_t end) {

@@ -100,6 +100,15 @@ uint64_t feed_last(const struct feed *feed, uint64_t end, const char *text);
 /* The place of an offset. Offsets before the last one that was asked for have its place. */
 struct place feed_place(struct feed *feed, uint64_t offset);
 
+/* The offset of a position. */
+uint64_t feed_offset_of(const struct feed *feed, struct position position);
+
+/* The place of an offset since the last call of feed_since, in any order. */
+struct place feed_earlier_place(struct feed *feed, uint64_t offset);
+
+/* A part of the text that is not forgotten. */
+struct span feed_text(const struct feed *feed, uint64_t offset, size_t length);
+
 /* Begins the part of the text whose places can be asked for in any order. */
 void feed_since(struct feed *feed);
 

@@ -12,24 +12,35 @@ enum {
     TEXT_BYTES = 512 /* kept of a text: enough for what is shown of it */
 };
 
-/* A start or an end, and what is directly before it. The library is not asked after each one. So what is told if nothing valid can follow it is kept: positions
- * and lengths, since that costs less than places and texts. */
+/* What a gap is. One store sets all of it. */
+struct gap_is {
+    bool text : 1;
+    bool tag : 1;    /* the start tag before: nothing comes behind it */
+    bool raw : 1;    /* the text is only in the document so far, and not kept */
+    bool cut : 1;    /* no more of the text is kept */
+    bool begun : 1;  /* what is kept of it begins with a character that is no blank */
+    bool logged : 1; /* `text_at` says where it begins in the log; else it is not there */
+    bool known : 1;  /* the judging knows the place of its position */
+};
+
+/* What is directly before a start or an end: a text, the start tag before, or neither. */
+struct gap {
+    struct position position;
+    size_t kept_at; /* where the text begins in the judge's `text`, .. */
+    size_t kept;    /* .. and how many bytes are there */
+    size_t text_at;
+    struct gap_is is;
+};
+
+/* A start or an end. The library is not asked after each one. So what is told if nothing valid can follow it is kept: positions and lengths, since that costs
+ * less than places and texts. */
 struct step {
+    struct gap gap; /* before it */
     struct position position;
     const struct event_name *name;
-    struct position before; /* of the text or the start tag directly before it, if one is there */
-    size_t at;      /* where the start or end begins in the log */
-    bool has_text;
-    bool has_tag;   /* nothing came behind the start tag */
-    bool is_cut;    /* no more of the text is kept */
-    bool is_begun;  /* what is kept of it begins with a character that is no blank */
-    bool is_known;  /* the place of `before` is known */
+    size_t at; /* where it begins in the log, if it is there */
     bool is_end;
-    bool is_logged; /* with all before it */
-    size_t raw;     /* of the text: how many bytes it has in the document at `before`; 0: it is kept */
-    size_t kept_at; /* where it begins in the judge's `text`, .. */
-    size_t kept;    /* .. and how many bytes are there */
-    size_t text_at; /* where it begins in the log */
+    bool is_logged; /* it is in the log, with all before it */
 };
 
 /* A document that is being judged. */
@@ -43,8 +54,9 @@ struct judging {
     uint64_t number; /* of the starts and ends that were passed: it is the place of the last one for the library */
     struct step steps[MOST_STEPS + 1]; /* those that the library was not asked about, .. */
     struct step *next; /* .. and the one that comes next */
-    struct place before; /* the place that the first one knows */
+    struct place before; /* the place that the first gap knows */
     bool has_ids;    /* IDs are checked */
+    bool is_usual;   /* as most of a large document: valid so far, behind what the log has, and without IDs */
     bool has_begun; /* a byte of the document was read, and this is the first one */
     char first;
 };
@@ -95,12 +107,12 @@ int status_of(enum verdict verdict) {
     }
 }
 
-static SELDOM void out_of_memory(struct judging *judging) {
+static OUT_OF_LINE void out_of_memory(struct judging *judging) {
     fault_set(judging->fault, FAULT_MEMORY, (struct place){0, 0}, "out of memory");
 }
 
 /* The library has not taken an event. What comes from a parser breaks no clause, if its names do not, and these were checked. */
-static SELDOM void is_not_taken(struct judging *judging, int32_t status) {
+static OUT_OF_LINE void is_not_taken(struct judging *judging, int32_t status) {
     if (status == RNCV_MALFORMED) {
         fault_set(judging->fault, FAULT_DEVICE, (struct place){0, 0}, "the library refuses what libxml2 has read");
     }
@@ -121,90 +133,101 @@ static size_t blanks_of(struct span text) {
     return at;
 }
 
-static struct span kept_text(const struct judging *judging, const struct step *step) {
-    bool is_there = step->has_text && step->kept > 0;
-    return is_there ? (struct span){judging->judge->text.data + step->kept_at, step->kept} : (struct span){"", 0};
+static struct span kept_text(const struct judging *judging, const struct gap *gap) {
+    bool is_there = gap->is.text && !gap->is.raw && gap->kept > 0;
+    return is_there ? (struct span){judging->judge->text.data + gap->kept_at, gap->kept} : (struct span){"", 0};
 }
 
 /* Drops the blanks before what is kept of a text. Nothing is kept behind it. */
-static void drop_blanks(struct judging *judging, struct step *step) {
-    if (!step->is_begun && step->kept > 0) {
-        struct bytes *kept = &judging->judge->text;
-        size_t blanks = blanks_of(kept_text(judging, step));
-        memmove(kept->data + step->kept_at, kept->data + step->kept_at + blanks, step->kept - blanks);
-        step->kept -= blanks;
+static void drop_blanks(struct judging *judging, struct gap *gap) {
+    struct bytes *kept = &judging->judge->text;
+    size_t blanks = gap->is.begun ? 0 : blanks_of(kept_text(judging, gap));
+    if (blanks > 0) {
+        memmove(kept->data + gap->kept_at, kept->data + gap->kept_at + blanks, gap->kept - blanks);
+        gap->kept -= blanks;
         kept->length -= blanks;
-        step->is_begun = step->kept > 0;
     }
+    gap->is.begun = gap->kept > 0;
 }
 
-static void add_kept(struct judging *judging, struct step *step, struct span text) {
+static void add_kept(struct judging *judging, struct gap *gap, struct span text) {
     struct bytes *kept = &judging->judge->text;
     size_t before = kept->length;
     bytes_add(kept, text.data, text.length);
-    step->kept += kept->length - before;
+    gap->kept += kept->length - before;
 }
 
 /* Keeps what there is room for of a text that is too long to be kept. It begins with a character that is no blank. No character is cut. */
-static void keep_beginning(struct judging *judging, struct step *step, struct span text) {
-    drop_blanks(judging, step);
-    size_t begin = step->is_begun ? 0 : blanks_of(text);
+static void keep_beginning(struct judging *judging, struct gap *gap, struct span text) {
+    drop_blanks(judging, gap);
+    size_t begin = gap->is.begun ? 0 : blanks_of(text);
     size_t length = text.length - begin;
-    step->is_begun |= length > 0;
-    if (length > TEXT_BYTES - step->kept) {
-        step->is_cut = true;
-        length = TEXT_BYTES - step->kept;
+    gap->is.begun = gap->is.begun || length > 0;
+    if (length > TEXT_BYTES - gap->kept) {
+        gap->is.cut = true;
+        length = TEXT_BYTES - gap->kept;
         while (length > 0 && ((unsigned char)text.data[begin + length] & 0xC0) == 0x80) {
             length--;
         }
     }
-    add_kept(judging, step, (struct span){text.data + begin, length});
+    add_kept(judging, gap, (struct span){text.data + begin, length});
 }
 
 /* Keeps the beginning of a text. Most are short, and no character of theirs is looked at. */
-static void keep_text(struct judging *judging, struct step *step, struct span text) {
-    if (step->is_cut) {
+static void keep_text(struct judging *judging, struct gap *gap, struct span text) {
+    if (gap->is.cut) {
         return;
     }
-    if (text.length <= TEXT_BYTES - step->kept) {
-        add_kept(judging, step, text);
+    if (text.length <= TEXT_BYTES - gap->kept) {
+        add_kept(judging, gap, text);
     } else {
-        keep_beginning(judging, step, text);
+        keep_beginning(judging, gap, text);
     }
 }
 
 /* Keeps a text that is only in the document so far. Nothing is kept behind it. */
-static void keep_raw(struct judging *judging, struct step *step) {
-    if (step->has_text && step->raw > 0) {
-        struct span text = text_at(&step->before, step->raw);
-        step->kept_at = judging->judge->text.length;
-        step->raw = 0;
-        keep_text(judging, step, text);
+static void keep_raw(struct judging *judging, struct gap *gap) {
+    if (gap->is.raw) {
+        gap->is.raw = false;
+        gap->kept_at = judging->judge->text.length;
+        gap->kept = 0;
+        keep_text(judging, gap, raw_text(gap->position));
     }
+}
+
+/* Notes a text before the start or end after which nothing valid can follow. What is kept of the texts behind it is needed no more. */
+static void note_text(struct judging *judging, struct gap *gap) {
+    struct finding *found = &judging->found;
+    struct bytes *kept = &judging->judge->text;
+    kept->length = kept_text(judging, gap).length > 0 ? gap->kept_at + gap->kept : 0;
+    keep_raw(judging, gap);
+    drop_blanks(judging, gap);
+    struct span text = kept_text(judging, gap);
+    found->has_text = text.length > 0;
+    found->text_at = gap->is.logged ? gap->text_at : judging->judge->log.bytes.length;
+    found->is_cut = gap->is.cut;
+    bytes_add(&found->text, text.data, text.length);
 }
 
 /* Notes what is at the start or end after which nothing valid can follow. A fault of an element without content is reported where its tag begins. */
 static bool note_finding(struct judging *judging, struct step *step) {
     struct finding *found = &judging->found;
-    judging->judge->text.length = step->has_text && step->kept > 0 ? step->kept_at + step->kept : 0; /* the others are needed no more */
-    keep_raw(judging, step);
-    drop_blanks(judging, step);
-    struct span text = kept_text(judging, step);
+    const struct event_name *name = step->name;
     found->is_end = step->is_end;
-    found->has_text = text.length > 0;
-    if (step->has_text || step->has_tag) {
-        found->text_place = step->is_known ? judging->before : earlier_place_of(&step->before);
-    }
-    found->place = step->is_end && step->has_tag ? found->text_place : earlier_place_of(&step->position);
     found->is_kept = step->is_logged;
-    found->at = step->at;
-    found->text_at = step->has_text ? step->text_at : step->at;
-    bytes_add(&found->text, text.data, text.length);
-    add_written(&found->name, step->name);
-    found->is_cut = step->is_cut;
-    found->uri_length = step->name->uri.length;
-    bytes_add(&found->expanded, step->name->uri.data, step->name->uri.length);
-    bytes_add(&found->expanded, step->name->local.data, step->name->local.length);
+    found->at = step->is_logged ? step->at : judging->judge->log.bytes.length;
+    found->text_at = found->at;
+    if (step->gap.is.text || step->gap.is.tag) {
+        found->text_place = step->gap.is.known ? judging->before : earlier_place_of(step->gap.position);
+    }
+    if (step->gap.is.text) {
+        note_text(judging, &step->gap);
+    }
+    found->place = step->is_end && step->gap.is.tag ? found->text_place : earlier_place_of(step->position);
+    add_written(&found->name, name);
+    found->uri_length = name->uri.length;
+    bytes_add(&found->expanded, name->uri.data, name->uri.length);
+    bytes_add(&found->expanded, name->local.data, name->local.length);
     bool is_told = expected_get(&judging->judge->schema, &found->expected);
     return is_told && !found->name.failed && !found->expanded.failed && !found->text.failed && !judging->judge->text.failed;
 }
@@ -214,8 +237,8 @@ static void begin_steps(struct judging *judging) {
     struct bytes *kept = &judging->judge->text;
     struct step *first = &judging->steps[0];
     *first = *judging->next;
-    bytes_cut_front(kept, kept_text(judging, first).length > 0 ? first->kept_at : kept->length);
-    first->kept_at = 0;
+    bytes_cut_front(kept, kept_text(judging, &first->gap).length > 0 ? first->gap.kept_at : kept->length);
+    first->gap.kept_at = 0;
     judging->next = first;
 }
 
@@ -235,6 +258,7 @@ static void look(struct judging *judging) {
         return;
     }
     uint64_t before = judging->number - passed;
+    judging->is_usual = false;
     judging->found.is_there = true;
     judging->found.is_lost = since <= before || since > judging->number; /* the place of another one is not known */
     if (!judging->found.is_lost && !note_finding(judging, &judging->steps[since - before - 1])) {
@@ -249,139 +273,166 @@ static void keep(void *context) {
     if (judging->found.is_there) {
         return;
     }
-    struct step *step = judging->next;
-    if ((step->has_text || step->has_tag) && !step->is_known) {
-        judging->before = place_of(&step->before);
-        step->is_known = true;
+    struct gap *gap = &judging->next->gap;
+    if ((gap->is.text || gap->is.tag) && !gap->is.known) {
+        judging->before = place_of(gap->position);
+        gap->is.known = true;
     }
-    keep_raw(judging, step);
+    keep_raw(judging, gap);
 }
 
-/* Ends the step of a start or an end that was passed, and begins the next one. */
-static inline void end_step(struct judging *judging, const struct position *position, const struct event_name *name, bool is_end) {
-    struct step *step = judging->next;
-    struct step *next = step + 1;
-    step->position = *position;
+/* There is room for one more step. */
+static inline bool has_room(const struct judging *judging) {
+    return judging->next < judging->steps + MOST_STEPS;
+}
+
+/* Ends the step of a start or an end, and begins the next one. */
+static inline void end_step(struct judging *judging, struct position position, const struct event_name *name, bool is_end) {
+    struct step *step = judging->next++;
+    step->position = position;
     step->name = name;
     step->is_end = is_end;
-    step->is_logged = !judging->judge->log.is_full;
-    next->before = *position;
-    next->has_text = false;
-    next->has_tag = !is_end;
-    next->is_cut = false;
-    next->is_begun = false;
-    next->is_known = false;
-    judging->next = next;
-    if (next == judging->steps + MOST_STEPS) {
-        look(judging);
-    }
+    step->is_logged = false;
+    judging->next->gap.position = position;
+    judging->next->gap.is = (struct gap_is){.tag = !is_end};
 }
 
-/* Takes the IDs of a tag. */
-static SELDOM void take_ids(struct judging *judging, const struct start_event *start) {
-    if (!id_check_take(&judging->judge->ids, start)) {
+/* Does the same if the step may be in the log, where it begins at `at`. */
+static void end_any_step(struct judging *judging, struct position position, const struct event_name *name, bool is_end, size_t at) {
+    struct step *step = judging->next;
+    bool is_logged = !judging->judge->log.is_full;
+    end_step(judging, position, name, is_end);
+    step->at = at;
+    step->is_logged = is_logged;
+    judging->is_usual = !is_logged && !judging->has_ids;
+}
+
+/* Passes a start to the library. False: it is not taken. */
+static bool pass_start(struct judging *judging, const struct start_event *start) {
+    struct judge *judge = judging->judge;
+    int32_t status = library_start(&judge->schema, &judge->room, ++judging->number, start->name, start->attributes, start->attribute_count);
+    if (status != RNCV_DONE) {
+        is_not_taken(judging, status);
+    }
+    return status == RNCV_DONE;
+}
+
+/* Takes any start. */
+static OUT_OF_LINE void take_any_start(struct judging *judging, const struct start_event *start) {
+    struct judge *judge = judging->judge;
+    if (!has_room(judging)) {
+        look(judging);
+    }
+    if (judging->found.is_there) {
+        pass_start(judging, start);
+        return;
+    }
+    event_log_declarations(&judge->log, start);
+    size_t at = judge->log.bytes.length;
+    event_log_start(&judge->log, start);
+    if (!pass_start(judging, start)) {
+        return;
+    }
+    end_any_step(judging, start->position, start->name, false, at);
+    if (judging->has_ids && !id_check_take(&judge->ids, start)) {
         out_of_memory(judging);
     }
 }
 
 static void take_start(void *context, const struct start_event *start) {
     struct judging *judging = context;
-    struct judge *judge = judging->judge;
-    bool is_found = judging->found.is_there;
-    if (!is_found) {
-        event_log_declarations(&judge->log, start);
+    if (!judging->is_usual || !has_room(judging)) {
+        take_any_start(judging, start);
+        return;
     }
-    judging->next->at = judge->log.bytes.length;
-    int32_t status = library_start(&judge->schema, &judge->room, ++judging->number, start->name, start->attributes, start->attribute_count);
-    if (status != RNCV_DONE) {
-        is_not_taken(judging, status);
-    } else if (!is_found) {
-        event_log_start(&judge->log, start);
-        if (judging->has_ids) {
-            take_ids(judging, start);
-        }
-        end_step(judging, &start->position, start->name, false);
-    }
+    end_step(judging, start->position, start->name, false);
+    pass_start(judging, start);
 }
 
-/* Begins a text. Its first piece is mostly in the document as it is: then it is not copied. */
-static inline void begin_text(struct judging *judging, const struct text_event *event) {
-    struct step *step = judging->next;
-    step->before = event->position;
-    step->raw = event->is_raw ? event->text.length : 0;
-    step->kept = 0;
-    step->kept_at = judging->judge->text.length;
-    step->text_at = judging->judge->log.bytes.length;
-    step->has_text = true;
-    step->has_tag = false;
-    step->is_known = false;
-}
-
-/* Keeps a piece of a text, unless it is one that is in the document. */
-static void keep_piece(struct judging *judging, const struct text_event *event) {
-    struct step *step = judging->next;
-    if (!step->has_text) {
-        begin_text(judging, event);
-        if (event->is_raw) {
-            return;
-        }
+/* Keeps a piece of a text, unless it is the first one, and in the document. */
+static void keep_piece(struct judging *judging, struct position position, struct span text, bool is_raw) {
+    struct gap *gap = &judging->next->gap;
+    if (!gap->is.text) {
+        gap->is = (struct gap_is){.text = true, .raw = is_raw, .logged = true};
+        gap->text_at = judging->judge->log.bytes.length;
+        gap->kept_at = judging->judge->text.length;
+        gap->kept = 0;
     } else {
-        keep_raw(judging, step);
-        drop_blanks(judging, step);
+        keep_raw(judging, gap);
+        drop_blanks(judging, gap);
     }
-    if (!step->is_begun) {
-        step->before = event->position;
-        step->is_known = false;
+    if (!gap->is.begun) {
+        gap->position = position;
+        gap->is.known = false;
     }
-    keep_text(judging, step, event->text);
+    if (!gap->is.raw) {
+        keep_text(judging, gap, text);
+    }
 }
 
 /* Takes any piece of a text. */
-static __attribute__((noinline)) void take_piece(struct judging *judging, const struct text_event *event) {
+static OUT_OF_LINE void take_any_text(struct judging *judging, struct position position, struct span text, bool is_raw) {
     struct judge *judge = judging->judge;
     if (!judging->found.is_there) {
-        keep_piece(judging, event);
-        event_log_text(&judge->log, event->text);
+        keep_piece(judging, position, text, is_raw);
+        event_log_text(&judge->log, text);
     }
-    int32_t status = library_text(&judge->schema, event->text);
+    int32_t status = library_text(&judge->schema, text);
     if (status != RNCV_DONE) {
         is_not_taken(judging, status);
     }
 }
 
-/* Takes a piece of a text. Most of a large document are the first of their text, and behind what the log has. If the library does not take one of these, it
- * does not take the next start or end either, and says so there. */
-static void take_text(void *context, const struct text_event *event) {
+/* Takes a piece of a text. Mostly it is the first one, and in the document as it is: then it is not copied. If the library does not take it, it takes
+ * nothing behind it either, and says so again. */
+static void take_text(void *context, struct position position, struct span text, bool is_raw) {
     struct judging *judging = context;
-    struct judge *judge = judging->judge;
-    if (judging->next->has_text || judging->found.is_there || !event->is_raw || !judge->log.is_full) {
-        take_piece(judging, event);
+    struct gap *gap = &judging->next->gap;
+    if (!judging->is_usual || !is_raw || gap->is.text) {
+        take_any_text(judging, position, text, is_raw);
         return;
     }
-    begin_text(judging, event);
-    library_text(&judge->schema, event->text);
+    gap->position = position;
+    gap->is = (struct gap_is){.text = true, .raw = true};
+    library_text(&judging->judge->schema, text);
 }
 
-static void take_end(void *context, const struct position *position, const struct event_name *name) {
-    struct judging *judging = context;
+/* Takes any end. */
+static OUT_OF_LINE void take_any_end(struct judging *judging, struct position position, const struct event_name *name) {
     struct judge *judge = judging->judge;
-    judging->next->at = judge->log.bytes.length;
+    if (!has_room(judging)) {
+        look(judging);
+    }
+    size_t at = judge->log.bytes.length;
+    if (!judging->found.is_there) {
+        event_log_end(&judge->log);
+    }
     int32_t status = rncv_events_end(&judge->schema, ++judging->number);
     if (status != RNCV_DONE) {
         is_not_taken(judging, status);
     } else if (!judging->found.is_there) {
-        event_log_end(&judge->log);
-        end_step(judging, position, name, true);
+        end_any_step(judging, position, name, true, at);
     }
 }
 
+/* Takes an end. Of the status take_text says the same. */
+static void take_end(void *context, struct position position, const struct event_name *name) {
+    struct judging *judging = context;
+    if (!judging->is_usual || !has_room(judging)) {
+        take_any_end(judging, position, name);
+        return;
+    }
+    end_step(judging, position, name, true);
+    rncv_events_end(&judging->judge->schema, ++judging->number);
+}
+
 /* An instruction is nothing for the judge. */
-static void take_instruction(void *context, const struct position *position, struct span target, struct span data) {
+static void take_instruction(void *context, struct position position, struct span target, struct span data) {
     struct judging *judging = context;
     (void)position;
     (void)target;
     (void)data;
-    judging->next->has_tag = false;
+    judging->next->gap.is.tag = false;
 }
 
 /* The bytes that grow with the document: those of the IDs. */
@@ -486,6 +537,8 @@ static void refuse_notes(struct answer *answer) {
 static void end_document(struct judging *judging) {
     if (rncv_events_finish(&judging->judge->schema, &judging->verdict) != RNCV_DONE) {
         out_of_memory(judging);
+    } else if (judging->verdict.kind == RNCV_BROKEN) {
+        is_not_taken(judging, RNCV_MALFORMED);
     } else if (judging->verdict.kind == RNCV_INVALID && !judging->found.is_there) {
         judging->found.is_there = true;
         judging->found.is_lost = true;

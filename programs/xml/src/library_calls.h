@@ -13,7 +13,7 @@ struct call_room {
 };
 
 /* Makes room for so many attributes. False: out of memory. */
-SELDOM bool call_room_grow(struct call_room *room, size_t count);
+OUT_OF_LINE bool call_room_grow(struct call_room *room, size_t count);
 
 static inline const uint8_t *bytes_of_span(struct span span) {
     return (const uint8_t *)span.data;
