@@ -33,6 +33,7 @@ struct reader {
     bool has_bad_name;   /* the tag that is being read has a name that is no QName */
     bool has_double;     /* two of its attributes have one name */
     bool has_undeclared; /* a name of it has a prefix that is not declared */
+    bool is_unusual;     /* the next tag may be such a one, or elements may declare namespaces by default */
     bool is_empty;       /* the end of the last start tag is in it */
     size_t depth;
     size_t most_depth;
@@ -375,49 +376,74 @@ static OUT_OF_LINE void take_any_start(void *context, const xmlChar *local, cons
     keep_name(reader, start->name);
     reader->has_double = false;
     reader->has_undeclared = false;
+    reader->is_unusual = reader->declarations.default_count > 0;
 }
 
-/* Sets the attributes of a tag if their names are known, and there is room. */
-static inline bool set_known_attributes(struct reader *reader, int count, const xmlChar **attributes) {
-    if ((size_t)count > reader->attribute_capacity) {
+/* Whether a start tag is usual: in the document, of a known name, with nothing that is declared or that is there by default. `searched` is then what is
+ * counted of namespaces after it. */
+static inline bool is_usual_start(const struct reader *reader, bool is_named, int namespace_count, int default_count, uint64_t searched) {
+    bool is_plain = is_named && namespace_count == 0 && default_count == 0 && !reader->is_unusual;
+    return is_plain && is_in_content(reader) && reader->depth < reader->most_depth && searched <= SEARCHED;
+}
+
+/* Hands a usual start to the receiver, whose attributes are set. */
+static inline void hand_usual_start(struct reader *reader, const struct event_name *name, size_t attribute_count, uint64_t searched) {
+    set_tag(reader);
+    reader->depth++;
+    reader->searched = searched;
+    reader->feed.unfinished = 0;
+    reader->start.name = name;
+    reader->start.declaration_count = 0;
+    reader->start.attribute_count = attribute_count;
+    reader->sink.start(reader->sink.context, &reader->start);
+}
+
+/* Sets the attributes of a tag. False: a name is not known, or there is no room. */
+static inline bool set_known_attributes(struct reader *reader, size_t count, const xmlChar **attributes) {
+    if (count > reader->attribute_capacity) {
         return false;
     }
-    struct event_attribute *to = reader->attributes;
-    for (int at = 0; at < count; at++, to++, attributes += 5) {
+    reader->start.attributes = reader->attributes;
+    struct event_attribute *end = reader->attributes + count;
+    for (struct event_attribute *to = reader->attributes; to < end; to++, attributes += 5) {
         const struct known_name *slot = known_slot(&reader->names, attributes[0]);
         if (!is_known(slot, attributes[0], attributes[1], attributes[2])) {
             return false;
         }
         *to = (struct event_attribute){slot->name, {(const char *)attributes[3], (size_t)(attributes[4] - attributes[3])}};
     }
-    reader->start.attribute_count = (size_t)count;
     return true;
 }
 
-/* Takes a start tag, as take_text does a text. It is usual if it is in the document, its names are known, and it has only attributes that are written. */
-static void take_start(void *context, const xmlChar *local, const xmlChar *prefix, const xmlChar *uri, int namespace_count, const xmlChar **namespaces,
-                       int attribute_count, int default_count, const xmlChar **attributes) {
+/* Takes a start tag that has attributes, or is not usual. */
+static OUT_OF_LINE void take_full_start(void *context, const xmlChar *local, const xmlChar *prefix, const xmlChar *uri, int namespace_count,
+                                        const xmlChar **namespaces, int attribute_count, int default_count, const xmlChar **attributes) {
     struct reader *reader = context;
+    const struct known_name *slot = known_slot(&reader->names, local);
+    uint64_t searched = reader->searched + searched_for(reader, attribute_count);
     if (!is_good(reader)) {
         return;
     }
-    const struct known_name *slot = known_slot(&reader->names, local);
-    uint64_t searched = reader->searched + searched_for(reader, attribute_count);
-    bool may_break = reader->has_bad_name || reader->has_double || reader->depth >= reader->most_depth || searched > SEARCHED;
-    bool has_others = namespace_count > 0 || default_count > 0 || reader->declarations.default_count > 0;
-    if (may_break || has_others || !is_in_content(reader) || !is_known(slot, local, prefix, uri) ||
-        !set_known_attributes(reader, attribute_count, attributes)) {
+    if (is_usual_start(reader, is_known(slot, local, prefix, uri), namespace_count, default_count, searched) &&
+        set_known_attributes(reader, (size_t)attribute_count, attributes)) {
+        hand_usual_start(reader, &slot->name, (size_t)attribute_count, searched);
+    } else {
         take_any_start(context, local, prefix, uri, namespace_count, namespaces, attribute_count, default_count, attributes);
+    }
+}
+
+/* Takes a start tag, as take_text does a text. */
+static void take_start(void *context, const xmlChar *local, const xmlChar *prefix, const xmlChar *uri, int namespace_count, const xmlChar **namespaces,
+                       int attribute_count, int default_count, const xmlChar **attributes) {
+    struct reader *reader = context;
+    const struct known_name *slot = known_slot(&reader->names, local);
+    uint64_t searched = reader->searched + searched_for(reader, 0);
+    bool has_none = attribute_count == 0 && is_good(reader);
+    if (has_none && is_usual_start(reader, is_known(slot, local, prefix, uri), namespace_count, 0, searched)) {
+        hand_usual_start(reader, &slot->name, 0, searched);
         return;
     }
-    set_tag(reader);
-    reader->depth++;
-    reader->searched = searched;
-    reader->feed.unfinished = 0;
-    reader->start.name = &slot->name;
-    reader->start.declaration_count = 0;
-    reader->start.attributes = reader->attributes;
-    reader->sink.start(reader->sink.context, &reader->start);
+    take_full_start(context, local, prefix, uri, namespace_count, namespaces, attribute_count, default_count, attributes);
 }
 
 /* Finds the position of an end tag in the document, and moves on behind it. Of an empty element it is behind its tag. */
@@ -548,6 +574,7 @@ static void take_attribute(void *context, const xmlChar *element, const xmlChar 
     (void)type;
     (void)kind;
     declarations_attribute(&reader->declarations, element, name, value);
+    reader->is_unusual = true;
     xmlFreeEnumeration(choices);
     move_on(reader);
 }
@@ -628,8 +655,10 @@ static void take_error(void *context, parser_error *error) {
         take_undeclared(reader, error->str1 == NULL ? "" : error->str1);
     } else if (error->domain == XML_FROM_NAMESPACE && error->code == XML_NS_ERR_QNAME) {
         reader->has_bad_name = true;
+        reader->is_unusual = true;
     } else if (error->domain == XML_FROM_NAMESPACE && error->code == XML_NS_ERR_ATTRIBUTE_REDEFINED) {
         reader->has_double = true;
+        reader->is_unusual = true;
     } else if (reader->feed.parser->instate == XML_PARSER_PI && (error->code == XML_ERR_PEREF_NO_NAME || error->code == XML_ERR_PEREF_SEMICOL_MISSING)) {
         /* libxml2 looks for references there, and XML does not (4.4) */
         fault_set(reader->fault, FAULT_OUTSIDE, error_place(reader, error), "a percent sign in an instruction of a parameter entity: outside the profile");

@@ -308,7 +308,7 @@ static void end_any_step(struct judging *judging, struct position position, cons
 }
 
 /* Passes a start to the library. False: it is not taken. */
-static bool pass_start(struct judging *judging, const struct start_event *start) {
+static OUT_OF_LINE bool pass_start(struct judging *judging, const struct start_event *start) {
     struct judge *judge = judging->judge;
     int32_t status = library_start(&judge->schema, &judge->room, ++judging->number, start->name, start->attributes, start->attribute_count);
     if (status != RNCV_DONE) {
@@ -339,6 +339,8 @@ static OUT_OF_LINE void take_any_start(struct judging *judging, const struct sta
     }
 }
 
+/* Takes a start. If the library does not take one without attributes, it takes nothing behind it either: take_any_start, take_any_end or the end of the document
+ * says so. */
 static void take_start(void *context, const struct start_event *start) {
     struct judging *judging = context;
     if (!judging->is_usual || !has_room(judging)) {
@@ -346,7 +348,11 @@ static void take_start(void *context, const struct start_event *start) {
         return;
     }
     end_step(judging, start->position, start->name, false);
-    pass_start(judging, start);
+    if (start->attribute_count > 0) {
+        pass_start(judging, start);
+    } else {
+        library_tag(&judging->judge->schema, ++judging->number, start->name, NULL, 0);
+    }
 }
 
 /* Keeps a piece of a text, unless it is the first one, and in the document. */
@@ -383,8 +389,7 @@ static OUT_OF_LINE void take_any_text(struct judging *judging, struct position p
     }
 }
 
-/* Takes a piece of a text. Mostly it is the first one, and in the document as it is: then it is not copied. If the library does not take it, it takes
- * nothing behind it either, and says so again. */
+/* Takes a piece of a text. Mostly it is the first one, and in the document as it is: then it is not copied. Of the status take_start says enough. */
 static void take_text(void *context, struct position position, struct span text, bool is_raw) {
     struct judging *judging = context;
     struct gap *gap = &judging->next->gap;
@@ -415,7 +420,7 @@ static OUT_OF_LINE void take_any_end(struct judging *judging, struct position po
     }
 }
 
-/* Takes an end. Of the status take_text says the same. */
+/* Takes an end, as take_start does a start. */
 static void take_end(void *context, struct position position, const struct event_name *name) {
     struct judging *judging = context;
     if (!judging->is_usual || !has_room(judging)) {

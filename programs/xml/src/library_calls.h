@@ -20,6 +20,11 @@ static inline const uint8_t *bytes_of_span(struct span span) {
 }
 
 /* Passes a start, with this number as its place. The status is that of rncv_events_start. */
+static inline int32_t library_tag(rncv_schema *schema, uint64_t place, const struct event_name *name, const rncv_attribute *attributes, size_t count) {
+    return rncv_events_start(schema, place, bytes_of_span(name->uri), name->uri.length, bytes_of_span(name->local), name->local.length, attributes, count);
+}
+
+/* Does the same with the attributes as a parser has them. */
 static inline int32_t library_start(rncv_schema *schema, struct call_room *room, uint64_t place, const struct event_name *name,
                                     const struct event_attribute *attributes, size_t count) {
     if (count > room->capacity && !call_room_grow(room, count)) {
@@ -30,7 +35,7 @@ static inline int32_t library_start(rncv_schema *schema, struct call_room *room,
         *to = (rncv_attribute){bytes_of_span(from->name.uri), from->name.uri.length, bytes_of_span(from->name.local), from->name.local.length,
                                bytes_of_span(from->value), from->value.length};
     }
-    return rncv_events_start(schema, place, bytes_of_span(name->uri), name->uri.length, bytes_of_span(name->local), name->local.length, room->attributes, count);
+    return library_tag(schema, place, name, room->attributes, count);
 }
 
 static inline int32_t library_text(rncv_schema *schema, struct span text) {
