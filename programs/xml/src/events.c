@@ -29,7 +29,6 @@ struct reader {
     size_t attribute_capacity;
     struct event_declaration *declared; /* room for its declarations */
     size_t declared_capacity;
-    struct known_names names;
     bool has_bad_name;   /* the tag that is being read has a name that is no QName */
     bool has_double;     /* two of its attributes have one name */
     bool has_undeclared; /* a name of it has a prefix that is not declared */
@@ -39,6 +38,7 @@ struct reader {
     size_t most_depth;
     uint64_t searched; /* how many open namespaces were looked at for names */
     struct parser_memory memory;
+    struct known_names names; /* at the end, since most of it is not set at first */
 };
 
 /* The reader of this thread's document. libxml2 reports some errors without it. */
@@ -265,13 +265,15 @@ static void add_declarations(struct reader *reader, struct start_event *start, i
 
 /* The name of an element or attribute, until another one is asked for. */
 static const struct event_name *name_of(struct reader *reader, const xmlChar *local, const xmlChar *prefix, const xmlChar *uri) {
-    struct known_name *slot = known_slot(&reader->names, local);
-    if (is_known(slot, local, prefix, uri)) {
-        return &slot->name;
+    size_t place = known_place(local);
+    if (is_known(&reader->names, place, local, prefix, uri)) {
+        return &reader->names.slots[place].name;
     }
     reader->has_undeclared |= prefix != NULL && (uri == NULL || *uri == '\0');
-    keep(reader); /* a new name takes the place of another one */
-    return known_name_new(&reader->names, slot, reader->feed.parser->dict, local, prefix, uri);
+    if (reader->names.locals[place] != NULL) {
+        keep(reader); /* another name vanishes from there */
+    }
+    return known_name_new(&reader->names, reader->feed.parser->dict, local, prefix, uri);
 }
 
 static void add_attributes(struct reader *reader, struct start_event *start, int count, const xmlChar **attributes) {
@@ -406,11 +408,11 @@ static inline bool set_known_attributes(struct reader *reader, size_t count, con
     reader->start.attributes = reader->attributes;
     struct event_attribute *end = reader->attributes + count;
     for (struct event_attribute *to = reader->attributes; to < end; to++, attributes += 5) {
-        const struct known_name *slot = known_slot(&reader->names, attributes[0]);
-        if (!is_known(slot, attributes[0], attributes[1], attributes[2])) {
+        size_t place = known_place(attributes[0]);
+        if (!is_known(&reader->names, place, attributes[0], attributes[1], attributes[2])) {
             return false;
         }
-        *to = (struct event_attribute){slot->name, {(const char *)attributes[3], (size_t)(attributes[4] - attributes[3])}};
+        *to = (struct event_attribute){reader->names.slots[place].name, {(const char *)attributes[3], (size_t)(attributes[4] - attributes[3])}};
     }
     return true;
 }
@@ -419,14 +421,14 @@ static inline bool set_known_attributes(struct reader *reader, size_t count, con
 static OUT_OF_LINE void take_full_start(void *context, const xmlChar *local, const xmlChar *prefix, const xmlChar *uri, int namespace_count,
                                         const xmlChar **namespaces, int attribute_count, int default_count, const xmlChar **attributes) {
     struct reader *reader = context;
-    const struct known_name *slot = known_slot(&reader->names, local);
+    size_t place = known_place(local);
+    bool is_named = is_known(&reader->names, place, local, prefix, uri);
     uint64_t searched = reader->searched + searched_for(reader, attribute_count);
     if (!is_good(reader)) {
         return;
     }
-    if (is_usual_start(reader, is_known(slot, local, prefix, uri), namespace_count, default_count, searched) &&
-        set_known_attributes(reader, (size_t)attribute_count, attributes)) {
-        hand_usual_start(reader, &slot->name, (size_t)attribute_count, searched);
+    if (is_usual_start(reader, is_named, namespace_count, default_count, searched) && set_known_attributes(reader, (size_t)attribute_count, attributes)) {
+        hand_usual_start(reader, &reader->names.slots[place].name, (size_t)attribute_count, searched);
     } else {
         take_any_start(context, local, prefix, uri, namespace_count, namespaces, attribute_count, default_count, attributes);
     }
@@ -436,11 +438,11 @@ static OUT_OF_LINE void take_full_start(void *context, const xmlChar *local, con
 static void take_start(void *context, const xmlChar *local, const xmlChar *prefix, const xmlChar *uri, int namespace_count, const xmlChar **namespaces,
                        int attribute_count, int default_count, const xmlChar **attributes) {
     struct reader *reader = context;
-    const struct known_name *slot = known_slot(&reader->names, local);
+    size_t place = known_place(local);
     uint64_t searched = reader->searched + searched_for(reader, 0);
     bool has_none = attribute_count == 0 && is_good(reader);
-    if (has_none && is_usual_start(reader, is_known(slot, local, prefix, uri), namespace_count, 0, searched)) {
-        hand_usual_start(reader, &slot->name, 0, searched);
+    if (has_none && is_usual_start(reader, is_known(&reader->names, place, local, prefix, uri), namespace_count, 0, searched)) {
+        hand_usual_start(reader, &reader->names.slots[place].name, 0, searched);
         return;
     }
     take_full_start(context, local, prefix, uri, namespace_count, namespaces, attribute_count, default_count, attributes);
@@ -474,15 +476,15 @@ static OUT_OF_LINE void take_any_end(void *context, const xmlChar *local, const 
 /* Takes an end, as take_text does a text. */
 static void take_end(void *context, const xmlChar *local, const xmlChar *prefix, const xmlChar *uri) {
     struct reader *reader = context;
-    const struct known_name *slot = known_slot(&reader->names, local);
+    size_t place = known_place(local);
     if (!is_good(reader)) {
         return;
     }
-    if (!is_in_content(reader) || !is_known(slot, local, prefix, uri)) {
+    if (!is_in_content(reader) || !is_known(&reader->names, place, local, prefix, uri)) {
         take_any_end(context, local, prefix, uri);
         return;
     }
-    hand_end(reader, end_position(reader), &slot->name);
+    hand_end(reader, end_position(reader), &reader->names.slots[place].name);
 }
 
 /* The position of an instruction. */
@@ -756,11 +758,8 @@ static void read_by_libxml2(struct reader *reader) {
     void *old_context = xmlStructuredErrorContext;
     current = reader;
     xmlSetStructuredErrorFunc(NULL, ignore_error);
-    if (declarations_open(&reader->declarations, &reader->feed, &reader->sink)) {
-        read_all(reader);
-    } else {
-        out_of_memory(reader);
-    }
+    declarations_open(&reader->declarations, &reader->feed, &reader->sink);
+    read_all(reader);
     declarations_free(&reader->declarations);
     xmlSetStructuredErrorFunc(old_context, old_report);
     current = outer;
@@ -768,6 +767,7 @@ static void read_by_libxml2(struct reader *reader) {
 }
 
 static void open_reader(struct reader *reader, const struct byte_source *source, const struct event_sink *sink, struct fault *fault) {
+    memset(reader, 0, offsetof(struct reader, names.slots));
     reader->sink = *sink;
     reader->fault = fault;
     reader->most_depth = sink->depth == 0 ? USUAL_DEPTH : sink->depth;
@@ -782,7 +782,7 @@ static void open_reader(struct reader *reader, const struct byte_source *source,
 }
 
 void read_events(const struct byte_source *source, const struct event_sink *sink, struct fault *fault) {
-    struct reader *reader = calloc(1, sizeof *reader);
+    struct reader *reader = malloc(sizeof *reader);
     if (reader == NULL) {
         fault_set(fault, FAULT_MEMORY, (struct place){0, 0}, "out of memory");
         return;

@@ -378,6 +378,15 @@ static void check_length(struct feed *feed, uint64_t markup) {
     feed_check_memory(feed, feed->place);
 }
 
+/* Lets libxml2 ask no more if it has all of the document. Else it asks at each token of the last 250 bytes, which takes long for many small documents. */
+static void stop_asking(struct feed *feed) {
+    xmlParserInputBufferPtr buffer = feed->parser->input == NULL ? NULL : feed->parser->input->buf;
+    bool has_all = feed->has_ended && feed->given == feed->text.length && feed->decoding.fault.kind == FAULT_NONE;
+    if (has_all && buffer != NULL && buffer->context == feed) {
+        buffer->readcallback = NULL;
+    }
+}
+
 /* libxml2 looks ahead in what it gets at once, so it gets all that it asks for unless the document ends. */
 int feed_read(void *context, char *bytes, int length) {
     struct feed *feed = context;
@@ -405,6 +414,7 @@ int feed_read(void *context, char *bytes, int length) {
     }
     memcpy(bytes, feed->text.data + feed->given, count);
     feed->given += count;
+    stop_asking(feed);
     uint64_t markup = feed_markup(feed);
     check_tag(feed, markup);
     check_choices(feed, markup);

@@ -11,30 +11,30 @@
 enum { KNOWN_BITS = 8 };
 
 struct known_name {
-    const xmlChar *local; /* NULL: there is none */
     const xmlChar *prefix;
     const xmlChar *uri;
     struct event_name name;
 };
 
+/* A table of names by their local names, each of which has one place. Before use all but the slots are set to zero. */
 struct known_names {
+    const xmlChar *locals[1 << KNOWN_BITS]; /* NULL: no name is in the slot */
+    struct event_name other;                /* one that is not kept */
     struct known_name slots[1 << KNOWN_BITS];
-    struct event_name other; /* one that is not kept */
 };
 
 /* Works the name out, and keeps it if the texts are in the dictionary, which keeps them as long as the document is read. A name whose prefix is not declared is
  * not kept. */
-const struct event_name *known_name_new(struct known_names *names, struct known_name *slot, xmlDictPtr dictionary, const xmlChar *local, const xmlChar *prefix,
-                                        const xmlChar *uri);
+const struct event_name *known_name_new(struct known_names *names, xmlDictPtr dictionary, const xmlChar *local, const xmlChar *prefix, const xmlChar *uri);
 
 /* The place for a name with this local name. */
-static inline struct known_name *known_slot(struct known_names *names, const xmlChar *local) {
-    return &names->slots[((uint64_t)(uintptr_t)local * UINT64_C(0x9E3779B97F4A7C15)) >> (64 - KNOWN_BITS)];
+static inline size_t known_place(const xmlChar *local) {
+    return (size_t)(((uint64_t)(uintptr_t)local * UINT64_C(0x9E3779B97F4A7C15)) >> (64 - KNOWN_BITS));
 }
 
-/* Whether the place has the name of these texts. NULL for a prefix or URI: there is none. */
-static inline bool is_known(const struct known_name *slot, const xmlChar *local, const xmlChar *prefix, const xmlChar *uri) {
-    return slot->local == local && slot->prefix == prefix && slot->uri == uri;
+/* Whether the name of these texts is at the place of its local name. NULL for a prefix or URI: there is none. */
+static inline bool is_known(const struct known_names *names, size_t place, const xmlChar *local, const xmlChar *prefix, const xmlChar *uri) {
+    return names->locals[place] == local && names->slots[place].prefix == prefix && names->slots[place].uri == uri;
 }
 
 #endif
