@@ -139,9 +139,12 @@ static struct span kept_text(const struct judging *judging, const struct gap *ga
 }
 
 /* Drops the blanks before what is kept of a text. Nothing is kept behind it. */
-static void drop_blanks(struct judging *judging, struct gap *gap) {
+static inline void drop_blanks(struct judging *judging, struct gap *gap) {
     struct bytes *kept = &judging->judge->text;
-    size_t blanks = gap->is.begun ? 0 : blanks_of(kept_text(judging, gap));
+    if (gap->is.begun || gap->kept == 0) {
+        return;
+    }
+    size_t blanks = blanks_of(kept_text(judging, gap));
     if (blanks > 0) {
         memmove(kept->data + gap->kept_at, kept->data + gap->kept_at + blanks, gap->kept - blanks);
         gap->kept -= blanks;
@@ -150,7 +153,7 @@ static void drop_blanks(struct judging *judging, struct gap *gap) {
     gap->is.begun = gap->kept > 0;
 }
 
-static void add_kept(struct judging *judging, struct gap *gap, struct span text) {
+static inline void add_kept(struct judging *judging, struct gap *gap, struct span text) {
     struct bytes *kept = &judging->judge->text;
     size_t before = kept->length;
     bytes_add(kept, text.data, text.length);
@@ -158,7 +161,7 @@ static void add_kept(struct judging *judging, struct gap *gap, struct span text)
 }
 
 /* Keeps what there is room for of a text that is too long to be kept. It begins with a character that is no blank. No character is cut. */
-static void keep_beginning(struct judging *judging, struct gap *gap, struct span text) {
+static OUT_OF_LINE void keep_beginning(struct judging *judging, struct gap *gap, struct span text) {
     drop_blanks(judging, gap);
     size_t begin = gap->is.begun ? 0 : blanks_of(text);
     size_t length = text.length - begin;
@@ -174,7 +177,7 @@ static void keep_beginning(struct judging *judging, struct gap *gap, struct span
 }
 
 /* Keeps the beginning of a text. Most are short, and no character of theirs is looked at. */
-static void keep_text(struct judging *judging, struct gap *gap, struct span text) {
+static inline void keep_text(struct judging *judging, struct gap *gap, struct span text) {
     if (gap->is.cut) {
         return;
     }
