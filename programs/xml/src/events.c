@@ -123,7 +123,7 @@ static inline bool is_raw(const struct reader *reader, const xmlChar *text) {
 /* Finds the position of such a piece, and moves on behind it. */
 static inline struct position raw_position(struct reader *reader, const xmlChar *text, size_t length) {
     uint64_t begin = feed_offset_in(reader->feed.parser->input, text);
-    feed_move(&reader->feed, begin + length);
+    feed_move_on(&reader->feed, begin + length);
     return (struct position){begin, length};
 }
 
@@ -179,7 +179,7 @@ static void set_tag(struct reader *reader) {
     reader->start.position.at = end;
     reader->start.position.blanks = BEFORE_TAG;
     reader->is_empty = is_empty;
-    feed_move(&reader->feed, end + 1 + is_empty);
+    feed_move_on(&reader->feed, end + 1 + is_empty);
 }
 
 /* Sets the position of a start tag in an entity. */
@@ -453,7 +453,7 @@ static inline struct position end_position(struct reader *reader) {
     const xmlParserInput *input = reader->feed.parser->input;
     struct position position = {feed_offset_in(input, input->cur), reader->is_empty ? 0 : BEFORE_END_TAG};
     reader->is_empty = false;
-    feed_move(&reader->feed, position.at);
+    feed_move_on(&reader->feed, position.at);
     return position;
 }
 

@@ -117,6 +117,11 @@ static inline void feed_move(struct feed *feed, uint64_t next) {
     feed->next = next > feed->next ? next : feed->next;
 }
 
+/* Does the same to where libxml2 is, which is never before. */
+static inline void feed_move_on(struct feed *feed, uint64_t next) {
+    feed->next = next;
+}
+
 /* The offset of the markup that is being read, after blanks. */
 uint64_t feed_markup(struct feed *feed);
 
