@@ -64,16 +64,16 @@ static void keep_beginning(struct element *element, struct span text) {
     bytes_add(&element->text, left.data, length);
 }
 
-void element_take_text(struct element *element, const struct text_event *event) {
+void element_take_text(struct element *element, struct position position, struct span text) {
     element->is_empty = false;
     if (!element->is_begun) {
-        element->text_place = place_of(&event->position);
-        element->is_begun = blanks_of(event->text) < event->text.length;
+        element->text_place = place_of(position);
+        element->is_begun = blanks_of(text) < text.length;
     }
     if (element->has_children) {
-        keep_beginning(element, event->text);
+        keep_beginning(element, text);
     } else {
-        bytes_add(&element->text, event->text.data, event->text.length);
+        bytes_add(&element->text, text.data, text.length);
     }
     element->failed |= element->text.failed;
 }
@@ -101,7 +101,7 @@ static void put_text(struct element *element) {
 }
 
 void element_take_child(struct element *element, const struct event_name *name, struct mark mark) {
-    const struct start_event child = {.name = *name};
+    const struct start_event child = {.name = name};
     put_text(element);
     element->has_children = true;
     element->is_empty = false;
@@ -218,7 +218,8 @@ static bool log_around(const struct alone *alone) {
         is_good = !reader.failed;
         log_reader_close(&reader);
     }
-    event_log_start(&alone->judge->log, &(struct start_event){.name = root_of(alone, room)});
+    struct event_name root = root_of(alone, room);
+    event_log_start(&alone->judge->log, &(struct start_event){.name = &root});
     return is_good;
 }
 
@@ -233,7 +234,7 @@ static void log_event(const struct alone_telling *telling, const struct logged *
         event_log_end(log);
     } else {
         size_t count = telling->alone->has_attributes ? event->count : 0;
-        event_log_start(log, &(struct start_event){.name = event->name, .attributes = telling->reader.attributes, .attribute_count = count});
+        event_log_start(log, &(struct start_event){.name = &event->name, .attributes = telling->reader.attributes, .attribute_count = count});
     }
 }
 
@@ -290,7 +291,7 @@ static bool pass_end(struct alone_telling *telling) {
         event_log_text(log_of(telling), (struct span){own->text.data, own->text.length});
     }
     found->is_end = true;
-    found->place = own->is_empty ? own->place : place_of(telling->alone->end);
+    found->place = own->is_empty ? own->place : place_of(*telling->alone->end);
     found->at = log_of(telling)->bytes.length;
     event_log_end(log_of(telling));
     return pass_text(telling->alone) == RNCV_DONE && rncv_events_end(&telling->alone->judge->schema, ++telling->number) == RNCV_DONE;

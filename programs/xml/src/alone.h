@@ -32,7 +32,7 @@ struct element {
 
 /* Begins an element. It has room that is used again. */
 void element_begin(struct element *element, const struct start_event *start, struct mark mark);
-void element_take_text(struct element *element, const struct text_event *event);
+void element_take_text(struct element *element, struct position position, struct span text);
 void element_take_child(struct element *element, const struct event_name *name, struct mark mark);
 void element_free(struct element *element);
 

@@ -21,6 +21,9 @@ struct span {
 
 #define NO_BYTES {NULL, 0, 0, false}
 
+/* Begins a function that stays out of those that call it, since they seldom do. So they save no registers for it. */
+#define OUT_OF_LINE __attribute__((noinline))
+
 /* Makes the room larger. After a failure there is no more room: the capacity is the length. */
 bool bytes_grow(struct bytes *bytes, size_t more);
 

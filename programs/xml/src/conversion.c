@@ -204,11 +204,12 @@ static bool has_blanks_alone(struct span text) {
     return at == text.length;
 }
 
-static bool take_text(void *context, const struct text_event *event) {
+static void take_text(void *context, struct position position, struct span text, bool is_raw) {
     struct writer *writer = context;
-    bool is_blank = (!writer->has_text || writer->is_blank) && has_blanks_alone(event->text);
+    (void)is_raw;
+    bool is_blank = (!writer->has_text || writer->is_blank) && has_blanks_alone(text);
     if (!writer->has_text || (writer->is_blank && !is_blank)) {
-        writer->text_place = place_of(&event->position);
+        writer->text_place = place_of(position);
     }
     writer->is_blank = is_blank;
     if (!writer->has_text) {
@@ -217,14 +218,13 @@ static bool take_text(void *context, const struct text_event *event) {
         writer->counts = false;
         bytes_add_byte(&writer->pyx, '-');
     }
-    add_escaped(&writer->pyx, event->text);
-    writer->text_bytes += event->text.length;
+    add_escaped(&writer->pyx, text);
+    writer->text_bytes += text.length;
     if (writer->pyx.failed) {
         out_of_memory(writer);
-    } else if (writer->text_bytes >= TEXT_CHARACTERS && held_characters(writer, event->text) >= TEXT_CHARACTERS) {
+    } else if (writer->text_bytes >= TEXT_CHARACTERS && held_characters(writer, text) >= TEXT_CHARACTERS) {
         text_ends(writer);
     }
-    return is_good(writer);
 }
 
 static void add_name(struct bytes *pyx, const struct event_name *name) {
@@ -245,14 +245,14 @@ static void put_attribute(struct writer *writer, const struct event_name *name, 
     }
 }
 
-static bool take_start(void *context, const struct start_event *start) {
+static void take_start(void *context, const struct start_event *start) {
     static const struct span xmlns = {"xmlns", 5};
     static const struct span none = {"", 0};
     struct writer *writer = context;
-    struct place place = place_of(&start->position);
+    struct place place = place_of(start->position);
     text_ends(writer);
     bytes_add_byte(&writer->pyx, '(');
-    add_name(&writer->pyx, &start->name);
+    add_name(&writer->pyx, start->name);
     line_ends(writer, place);
     for (size_t at = 0; at < start->declaration_count; at++) {
         const struct event_declaration *declaration = &start->declarations[at];
@@ -263,20 +263,18 @@ static bool take_start(void *context, const struct start_event *start) {
     for (size_t at = 0; at < start->attribute_count; at++) {
         put_attribute(writer, &start->attributes[at].name, start->attributes[at].value, place);
     }
-    return is_good(writer);
 }
 
-static bool take_end(void *context, const struct position *position, const struct event_name *name) {
+static void take_end(void *context, struct position position, const struct event_name *name) {
     struct writer *writer = context;
     text_ends(writer);
     bytes_add_byte(&writer->pyx, ')');
     add_name(&writer->pyx, name);
     line_ends(writer, place_of(position));
-    return is_good(writer);
 }
 
 /* An instruction vanishes. It has a line so that texts join across it. A long line is cut. */
-static bool take_instruction(void *context, const struct position *position, struct span target, struct span data) {
+static void take_instruction(void *context, struct position position, struct span target, struct span data) {
     struct writer *writer = context;
     text_ends(writer);
     size_t begin = writer->pyx.length;
@@ -290,7 +288,6 @@ static bool take_instruction(void *context, const struct position *position, str
         writer->pyx.length = begin + cut_at(writer->pyx.data + begin, writer->pyx.length - begin, LINE_BYTES);
     }
     line_ends(writer, place_of(position));
-    return is_good(writer);
 }
 
 static void take_note(void *context, struct place place, const char *what) {
@@ -300,7 +297,7 @@ static void take_note(void *context, struct place place, const char *what) {
 
 void convert(const struct byte_source *source, const struct pyx_sink *sink, struct fault *fault) {
     struct writer writer = {.sink = sink, .fault = fault, .pyx = NO_BYTES, .first = 1};
-    struct event_sink events = {take_start, take_text, take_end, take_instruction, take_note, flush, NULL, &writer, false, 0, 0};
+    struct event_sink events = {take_start, take_text, take_end, take_instruction, take_note, flush, NULL, NULL, &writer, false, 0, 0};
     read_events(source, &events, fault);
     /* what comes before a fault of the document may have another one, which is the first then */
     if (fault->kind <= FAULT_OUTSIDE) {

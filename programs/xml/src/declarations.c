@@ -23,7 +23,7 @@ static const char *plain(const xmlChar *text) {
     return text == NULL ? "" : (const char *)text;
 }
 
-bool declarations_open(struct declarations *declarations, struct feed *feed, const struct event_sink *sink) {
+void declarations_open(struct declarations *declarations, struct feed *feed, const struct event_sink *sink) {
     static xmlChar no_name[] = "";
     memset(declarations, 0, sizeof *declarations);
     declarations->feed = feed;
@@ -34,9 +34,7 @@ bool declarations_open(struct declarations *declarations, struct feed *feed, con
     declarations->plain.type = XML_ENTITY_DECL;
     declarations->plain.etype = XML_INTERNAL_PREDEFINED_ENTITY;
     declarations->plain.name = no_name;
-    declarations->ends = calloc(EMPTY_PLACES, 1);
-    declarations->nothing.content = declarations->ends;
-    return declarations->ends != NULL;
+    declarations->nothing.content = no_name;
 }
 
 void declarations_free(struct declarations *declarations) {
@@ -457,6 +455,13 @@ xmlEntityPtr declarations_general(struct declarations *declarations, const xmlCh
 
 /* An entity without text, at another place each time. */
 static xmlEntityPtr empty(struct declarations *declarations) {
+    if (declarations->ends == NULL) {
+        declarations->ends = calloc(EMPTY_PLACES, 1);
+        if (declarations->ends == NULL) {
+            out_of_memory(declarations);
+            return NULL;
+        }
+    }
     declarations->next_end = (declarations->next_end + 1) % EMPTY_PLACES;
     declarations->nothing.content = declarations->ends + declarations->next_end;
     return &declarations->nothing;

@@ -45,8 +45,7 @@ struct declarations {
     xmlEntity plain;        /* an entity of text alone, which libxml2 takes as it takes `&lt;` */
 };
 
-/* False: out of memory. */
-bool declarations_open(struct declarations *declarations, struct feed *feed, const struct event_sink *sink);
+void declarations_open(struct declarations *declarations, struct feed *feed, const struct event_sink *sink);
 void declarations_free(struct declarations *declarations);
 
 /* Reads the external DTD, if that is wanted. */

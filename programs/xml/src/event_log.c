@@ -67,7 +67,7 @@ static void put_end(struct event_log *log, const char *end) {
 }
 
 void event_log_add_start(struct event_log *log, const struct start_event *start) {
-    size_t length = 1 + NUMBER_BYTES + length_of(&start->name);
+    size_t length = 1 + NUMBER_BYTES + length_of(start->name);
     for (size_t at = 0; at < start->attribute_count && length <= most_of(log); at++) {
         length += length_of(&start->attributes[at].name) + NUMBER_BYTES + start->attributes[at].value.length;
     }
@@ -76,7 +76,7 @@ void event_log_add_start(struct event_log *log, const struct start_event *start)
         return;
     }
     *to++ = LOGGED_START;
-    to = put_name(log, to, &start->name);
+    to = put_name(log, to, start->name);
     to = put_number(to, start->attribute_count);
     for (size_t at = 0; at < start->attribute_count; at++) {
         to = put_name(log, to, &start->attributes[at].name);

@@ -22,25 +22,39 @@ enum {
 struct reader {
     struct feed feed;
     struct declarations declarations;
-    const struct event_sink *sink;
+    struct event_sink sink;
     struct fault *fault;
+    struct start_event start; /* the last one */
     struct event_attribute *attributes; /* room for those of a tag */
     size_t attribute_capacity;
     struct event_declaration *declared; /* room for its declarations */
     size_t declared_capacity;
-    struct known_names names;
     bool has_bad_name;   /* the tag that is being read has a name that is no QName */
     bool has_double;     /* two of its attributes have one name */
     bool has_undeclared; /* a name of it has a prefix that is not declared */
-    struct position tag; /* of the last start tag */
-    bool is_empty;       /* its end is in it */
+    bool is_unusual;     /* the next tag may be such a one, or elements may declare namespaces by default */
+    bool is_empty;       /* the end of the last start tag is in it */
     size_t depth;
+    size_t most_depth;
     uint64_t searched; /* how many open namespaces were looked at for names */
     struct parser_memory memory;
+    struct known_names names; /* at the end, since most of it is not set at first */
 };
 
 /* The reader of this thread's document. libxml2 reports some errors without it. */
 static _Thread_local struct reader *current = NULL;
+
+struct place place_of(struct position position) {
+    return feed_place(&current->feed, feed_offset_of(&current->feed, position));
+}
+
+struct place earlier_place_of(struct position position) {
+    return feed_earlier_place(&current->feed, feed_offset_of(&current->feed, position));
+}
+
+struct span raw_text(struct position position) {
+    return feed_text(&current->feed, position.at, position.blanks);
+}
 
 static void out_of_memory(struct reader *reader) {
     fault_set(reader->fault, FAULT_MEMORY, (struct place){0, 0}, "out of memory");
@@ -50,17 +64,10 @@ static bool is_good(const struct reader *reader) {
     return reader->fault->kind == FAULT_NONE;
 }
 
-/* Notes whether the receiver wants more. */
-static void go_on(struct reader *reader, bool wants_more) {
-    if (!wants_more) {
-        fault_set(reader->fault, FAULT_STOPPED, (struct place){0, 0}, "stopped");
-    }
-}
-
 static void flush(void *context) {
     const struct reader *reader = context;
-    if (is_good(reader) && reader->sink->flush != NULL) {
-        reader->sink->flush(reader->sink->context);
+    if (is_good(reader) && reader->sink.flush != NULL) {
+        reader->sink.flush(reader->sink.context);
     }
 }
 
@@ -68,18 +75,29 @@ static void flush(void *context) {
 static void before_read(void *context) {
     struct reader *reader = context;
     flush(reader);
-    if (reader->sink->held != NULL) {
-        reader->feed.kept = reader->sink->held(reader->sink->context);
+    if (reader->sink.held != NULL) {
+        reader->feed.kept = reader->sink.held(reader->sink.context);
+    }
+}
+
+/* Lets the receiver keep what it still needs of the events that came. */
+static void keep(void *context) {
+    struct reader *reader = context;
+    if (reader->sink.keep != NULL) {
+        reader->sink.keep(reader->sink.context);
+        feed_since(&reader->feed);
+    }
+}
+
+/* Does the same if the texts of a name do not stay. */
+static void keep_name(struct reader *reader, const struct event_name *name) {
+    if (name == &reader->names.other) {
+        keep(reader);
     }
 }
 
 static struct span span_of(const xmlChar *text) {
     return text == NULL ? (struct span){"", 0} : (struct span){(const char *)text, strlen((const char *)text)};
-}
-
-/* Whether libxml2 reads the document itself, and not the text of an entity. */
-static bool is_in_document(const struct reader *reader) {
-    return reader->feed.parser->depth == 0 && reader->feed.parser->inputNr == 1 && !reader->feed.is_away;
 }
 
 /* How many blanks begin the text. */
@@ -91,55 +109,84 @@ static size_t blanks_of(const char *text, size_t length) {
     return at;
 }
 
-/* Finds the position of a piece of text, and moves on behind it. Where the document has the piece as it is, its blanks are there too. */
-static struct position text_position(struct reader *reader, const xmlChar *text, size_t length) {
+/* Whether libxml2 reads the content of the document itself, and not that of an entity. */
+static inline bool is_in_content(const struct reader *reader) {
+    return reader->feed.parser->depth == 0 && reader->feed.parser->inputNr == 1;
+}
+
+/* Whether a piece of text is in the text of the document as libxml2 has it. */
+static inline bool is_raw(const struct reader *reader, const xmlChar *text) {
+    const xmlParserInput *input = reader->feed.parser->input;
+    return is_in_content(reader) && text >= input->base && text < input->end;
+}
+
+/* Finds the position of such a piece, and moves on behind it. */
+static inline struct position raw_position(struct reader *reader, const xmlChar *text, size_t length) {
+    uint64_t begin = feed_offset_in(reader->feed.parser->input, text);
+    feed_move_on(&reader->feed, begin + length);
+    return (struct position){begin, length};
+}
+
+/* Finds the position of another piece, and moves on behind it. Where the document has the piece as it is, its blanks are there too. */
+static struct position other_position(struct reader *reader, size_t length) {
     struct feed *feed = &reader->feed;
-    bool is_in = is_in_document(reader);
-    uint64_t begin;
-    if (is_in && feed_offset_of(feed, text, &begin)) {
-        feed_move(feed, begin + length);
-        return (struct position){feed, begin, NULL, length};
-    }
     uint64_t end = feed_offset(feed);
-    begin = feed_settle(feed, end);
-    bool is_raw = is_in && feed_byte(feed, begin) != '&';
+    uint64_t begin = feed_settle(feed, end);
+    bool is_in = feed_is_read(feed);
+    bool has_blanks = is_in && feed_byte(feed, begin) != '&';
     if (is_in) {
         begin += feed_byte(feed, begin) == '<' ? strlen("<![CDATA[") : 0;
         feed_move(feed, end);
     }
-    return (struct position){feed, begin, NULL, is_raw ? length : 0};
+    return (struct position){begin, has_blanks ? length : 0};
 }
 
+/* Takes any piece of text. */
+static OUT_OF_LINE void take_any_text(struct reader *reader, const xmlChar *text, size_t length) {
+    bool has_raw = is_raw(reader, text);
+    struct position position = has_raw ? raw_position(reader, text, length) : other_position(reader, length);
+    if (length == 0) {
+        return;
+    }
+    reader->feed.unfinished += length;
+    if (reader->feed.unfinished > LONG_TEXT && feed_is_over(&reader->feed)) {
+        feed_check_memory(&reader->feed, place_of(position));
+        return;
+    }
+    reader->sink.text(reader->sink.context, position, (struct span){(const char *)text, length}, has_raw);
+}
+
+/* Takes a piece of text. This is called most often: if the piece is usual, no registers are saved, and nothing is called before the receiver. */
 static void take_text(void *context, const xmlChar *text, int size) {
     struct reader *reader = context;
     size_t length = size > 0 ? (size_t)size : 0;
     if (!is_good(reader)) {
         return;
     }
-    struct text_event event = {text_position(reader, text, length), {(const char *)text, length}};
-    if (length == 0) {
+    if (length == 0 || reader->feed.unfinished + length > LONG_TEXT || !is_raw(reader, text)) {
+        take_any_text(reader, text, length);
         return;
     }
     reader->feed.unfinished += length;
-    if (reader->feed.unfinished > LONG_TEXT && feed_is_over(&reader->feed)) {
-        feed_check_memory(&reader->feed, place_of(&event.position));
-        return;
-    }
-    go_on(reader, reader->sink->text(reader->sink->context, &event));
+    reader->sink.text(reader->sink.context, raw_position(reader, text, length), (struct span){(const char *)text, length}, true);
 }
 
-/* Sets the position of a start tag, and moves on behind it. */
+/* Sets the position of a start tag in the document, and moves on behind it. */
 static void set_tag(struct reader *reader) {
-    struct feed *feed = &reader->feed;
-    uint64_t end = feed_offset(feed);
-    if (!is_in_document(reader)) {
-        reader->tag = (struct position){feed, feed_settle(feed, end), NULL, 0};
-        reader->is_empty = false;
-        return;
-    }
-    reader->tag = (struct position){feed, end, "<", 0};
-    reader->is_empty = feed_byte(feed, end) == '/';
-    feed_move(feed, end + (reader->is_empty ? 2 : 1));
+    const xmlParserInput *input = reader->feed.parser->input;
+    uint64_t end = feed_offset_in(input, input->cur);
+    bool is_empty = *input->cur == '/';
+    reader->start.position.at = end;
+    reader->start.position.blanks = BEFORE_TAG;
+    reader->is_empty = is_empty;
+    feed_move_on(&reader->feed, end + 1 + is_empty);
+}
+
+/* Sets the position of a start tag in an entity. */
+static void set_other_tag(struct reader *reader) {
+    reader->start.position.at = feed_settle(&reader->feed, feed_offset(&reader->feed));
+    reader->start.position.blanks = 0;
+    reader->is_empty = false;
 }
 
 /* Makes room for one more item of this size. False: out of memory, and there is a fault. */
@@ -199,7 +246,7 @@ static void add_defaults(struct reader *reader, struct start_event *start) {
     for (size_t at = 0; at < declarations->default_count && is_good(reader); at++) {
         const struct namespace_default *found = &declarations->defaults[at];
         const char *prefix = found->name[5] == '\0' ? "" : found->name + 6;
-        if (is_written(&start->name, found->element) && !declares(reader, own, (struct span){prefix, strlen(prefix)})) {
+        if (is_written(start->name, found->element) && !declares(reader, own, (struct span){prefix, strlen(prefix)})) {
             add_declaration(reader, start, (struct span){prefix, strlen(prefix)}, (struct span){found->value, strlen(found->value)});
         }
     }
@@ -216,10 +263,17 @@ static void add_declarations(struct reader *reader, struct start_event *start, i
     start->declarations = reader->declared;
 }
 
-/* The name of an element or attribute. */
-static struct event_name name_of(struct reader *reader, const xmlChar *local, const xmlChar *prefix, const xmlChar *uri) {
+/* The name of an element or attribute, until another one is asked for. */
+static const struct event_name *name_of(struct reader *reader, const xmlChar *local, const xmlChar *prefix, const xmlChar *uri) {
+    size_t place = known_place(local);
+    if (is_known(&reader->names, place, local, prefix, uri)) {
+        return &reader->names.slots[place].name;
+    }
     reader->has_undeclared |= prefix != NULL && (uri == NULL || *uri == '\0');
-    return *known_name(&reader->names, reader->feed.parser->dict, local, prefix, uri);
+    if (reader->names.locals[place] != NULL) {
+        keep(reader); /* another name vanishes from there */
+    }
+    return known_name_new(&reader->names, reader->feed.parser->dict, local, prefix, uri);
 }
 
 static void add_attributes(struct reader *reader, struct start_event *start, int count, const xmlChar **attributes) {
@@ -230,7 +284,7 @@ static void add_attributes(struct reader *reader, struct start_event *start, int
             out_of_memory(reader); /* for the value of a default */
         } else if (has_room(reader, &list, start->attribute_count, &reader->attribute_capacity, sizeof *reader->attributes)) {
             reader->attributes = list;
-            reader->attributes[start->attribute_count++] = (struct event_attribute){name_of(reader, attributes[0], attributes[1], attributes[2]),
+            reader->attributes[start->attribute_count++] = (struct event_attribute){*name_of(reader, attributes[0], attributes[1], attributes[2]),
                                                                                     {(const char *)attributes[3], (size_t)(attributes[4] - attributes[3])}};
         }
     }
@@ -246,34 +300,34 @@ static void check_names(struct reader *reader, const struct start_event *start) 
         if (words.failed) {
             out_of_memory(reader);
         }
-        fault_set_clause(reader->fault, clause, place_of(&start->position), text);
+        fault_set_clause(reader->fault, clause, place_of(start->position), text);
     }
     bytes_free(&words);
 }
 
 /* Counts an element that is open. */
 static void count_open(struct reader *reader) {
-    size_t most = reader->sink->depth == 0 ? USUAL_DEPTH : reader->sink->depth;
-#if LIBXML_VERSION < 20911
-    most = most < USUAL_DEPTH ? most : USUAL_DEPTH; /* these call themselves for an element in an element */
-#endif
     reader->depth++;
-    if (reader->depth > most) {
+    if (reader->depth > reader->most_depth) {
         struct bytes count = NO_BYTES;
-        bytes_add_count(&count, most);
-        fault_set(reader->fault, FAULT_OUTSIDE, place_of(&reader->tag), "over a limit of this program: more than %s elements are open (--max-depth)",
-                  bytes_text(&count));
+        bytes_add_count(&count, reader->most_depth);
+        fault_set(reader->fault, FAULT_OUTSIDE, place_of(reader->start.position),
+                  "over a limit of this program: more than %s elements are open (--max-depth)", bytes_text(&count));
         bytes_free(&count);
     }
 }
 
+/* How many open namespaces libxml2 looks at for the names of a tag. */
+static uint64_t searched_for(const struct reader *reader, int attribute_count) {
+    return ((uint64_t)attribute_count + 1) * (uint64_t)reader->feed.parser->nsNr / 2;
+}
+
 /* Counts what libxml2 takes for a tag beside its length: it looks for each name in the open namespaces, and adds the attributes that are there by default. */
 static void count_costs(struct reader *reader, int attribute_count, int default_count, const xmlChar **attributes) {
-    uint64_t names = (uint64_t)attribute_count + 1;
     uint64_t defaults = (uint64_t)default_count;
-    reader->searched += names * (uint64_t)reader->feed.parser->nsNr / 2;
+    reader->searched += searched_for(reader, attribute_count);
     if (reader->searched > SEARCHED && reader->searched / MOST_SEARCHED > feed_offset(&reader->feed) + reader->declarations.loaded) {
-        fault_set(reader->fault, FAULT_OUTSIDE, place_of(&reader->tag), "over a limit of this program: too many declarations of namespaces are in scope");
+        fault_set(reader->fault, FAULT_OUTSIDE, place_of(reader->start.position), "over a limit of this program: too many declarations of namespaces are in scope");
     }
     if (default_count == 0) {
         return;
@@ -283,69 +337,154 @@ static void count_costs(struct reader *reader, int attribute_count, int default_
         cost += at[3] == NULL ? 0 : (uint64_t)(at[4] - at[3]);
     }
     if (!declarations_count(&reader->declarations, cost)) {
-        fault_set(reader->fault, FAULT_OUTSIDE, place_of(&reader->tag), "attributes by default of more than 100 times the document's length: outside the profile");
+        fault_set(reader->fault, FAULT_OUTSIDE, place_of(reader->start.position), "attributes by default of more than 100 times the document's length: outside the profile");
     }
 }
 
 /* Hands the start to the receiver. A name that is no QName is a fault, if no other is found. */
 static void hand_start(struct reader *reader, const struct start_event *start) {
     bool may_break = reader->has_bad_name || reader->has_double || reader->has_undeclared || start->declaration_count > 0;
-    if (reader->sink->checks_names && may_break) {
+    if (reader->sink.checks_names && may_break) {
         check_names(reader, start);
     }
     if (is_good(reader)) {
-        go_on(reader, reader->sink->start(reader->sink->context, start));
+        reader->sink.start(reader->sink.context, start);
     }
     if (reader->has_bad_name) {
         flush(reader); /* the receiver comes first: it may know that too, and say more */
-        fault_set(reader->fault, FAULT_MALFORMED, place_of(&reader->tag), "malformed XML: a name that is no QName of Namespaces in XML");
+        fault_set(reader->fault, FAULT_MALFORMED, place_of(reader->start.position), "malformed XML: a name that is no QName of Namespaces in XML");
     }
 }
 
-static void take_start(void *context, const xmlChar *local, const xmlChar *prefix, const xmlChar *uri, int namespace_count, const xmlChar **namespaces,
-                       int attribute_count, int default_count, const xmlChar **attributes) {
+/* Takes any start tag. */
+static OUT_OF_LINE void take_any_start(void *context, const xmlChar *local, const xmlChar *prefix, const xmlChar *uri, int namespace_count,
+                                  const xmlChar **namespaces, int attribute_count, int default_count, const xmlChar **attributes) {
     struct reader *reader = context;
-    if (!is_good(reader)) {
-        return;
+    struct start_event *start = &reader->start;
+    if (is_in_content(reader)) {
+        set_tag(reader);
+    } else {
+        set_other_tag(reader);
     }
-    set_tag(reader);
     count_open(reader);
     count_costs(reader, attribute_count, default_count, attributes);
     reader->feed.unfinished = 0;
-    struct start_event start;
-    start.position = reader->tag;
-    start.name = name_of(reader, local, prefix, uri);
-    add_declarations(reader, &start, namespace_count, namespaces);
-    add_attributes(reader, &start, attribute_count, attributes);
+    add_attributes(reader, start, attribute_count, attributes);
+    start->name = name_of(reader, local, prefix, uri);
+    add_declarations(reader, start, namespace_count, namespaces);
     if (is_good(reader)) {
-        hand_start(reader, &start);
+        hand_start(reader, start);
     }
+    keep_name(reader, start->name);
     reader->has_double = false;
     reader->has_undeclared = false;
+    reader->is_unusual = reader->declarations.default_count > 0;
 }
 
-/* The position of an end tag. Of an empty element it is behind its tag. */
-static struct position end_position(struct reader *reader) {
-    struct feed *feed = &reader->feed;
-    uint64_t end = feed_offset(feed);
-    if (!is_in_document(reader)) {
-        return (struct position){feed, feed_settle(feed, end), NULL, 0};
+/* Whether a start tag is usual: in the document, of a known name, with nothing that is declared or that is there by default. `searched` is then what is
+ * counted of namespaces after it. */
+static inline bool is_usual_start(const struct reader *reader, bool is_named, int namespace_count, int default_count, uint64_t searched) {
+    bool is_plain = is_named && namespace_count == 0 && default_count == 0 && !reader->is_unusual;
+    return is_plain && is_in_content(reader) && reader->depth < reader->most_depth && searched <= SEARCHED;
+}
+
+/* Hands a usual start to the receiver, whose attributes are set. */
+static inline void hand_usual_start(struct reader *reader, const struct event_name *name, size_t attribute_count, uint64_t searched) {
+    set_tag(reader);
+    reader->depth++;
+    reader->searched = searched;
+    reader->feed.unfinished = 0;
+    reader->start.name = name;
+    reader->start.declaration_count = 0;
+    reader->start.attribute_count = attribute_count;
+    reader->sink.start(reader->sink.context, &reader->start);
+}
+
+/* Sets the attributes of a tag. False: a name is not known, or there is no room. */
+static inline bool set_known_attributes(struct reader *reader, size_t count, const xmlChar **attributes) {
+    if (count > reader->attribute_capacity) {
+        return false;
     }
-    feed_move(feed, end);
-    bool is_empty = reader->is_empty;
-    reader->is_empty = false;
-    return (struct position){feed, end, is_empty ? NULL : "</", 0};
+    reader->start.attributes = reader->attributes;
+    struct event_attribute *end = reader->attributes + count;
+    for (struct event_attribute *to = reader->attributes; to < end; to++, attributes += 5) {
+        size_t place = known_place(attributes[0]);
+        if (!is_known(&reader->names, place, attributes[0], attributes[1], attributes[2])) {
+            return false;
+        }
+        *to = (struct event_attribute){reader->names.slots[place].name, {(const char *)attributes[3], (size_t)(attributes[4] - attributes[3])}};
+    }
+    return true;
 }
 
+/* Takes a start tag that has attributes, or is not usual. */
+static OUT_OF_LINE void take_full_start(void *context, const xmlChar *local, const xmlChar *prefix, const xmlChar *uri, int namespace_count,
+                                        const xmlChar **namespaces, int attribute_count, int default_count, const xmlChar **attributes) {
+    struct reader *reader = context;
+    size_t place = known_place(local);
+    bool is_named = is_known(&reader->names, place, local, prefix, uri);
+    uint64_t searched = reader->searched + searched_for(reader, attribute_count);
+    if (!is_good(reader)) {
+        return;
+    }
+    if (is_usual_start(reader, is_named, namespace_count, default_count, searched) && set_known_attributes(reader, (size_t)attribute_count, attributes)) {
+        hand_usual_start(reader, &reader->names.slots[place].name, (size_t)attribute_count, searched);
+    } else {
+        take_any_start(context, local, prefix, uri, namespace_count, namespaces, attribute_count, default_count, attributes);
+    }
+}
+
+/* Takes a start tag, as take_text does a text. */
+static void take_start(void *context, const xmlChar *local, const xmlChar *prefix, const xmlChar *uri, int namespace_count, const xmlChar **namespaces,
+                       int attribute_count, int default_count, const xmlChar **attributes) {
+    struct reader *reader = context;
+    size_t place = known_place(local);
+    uint64_t searched = reader->searched + searched_for(reader, 0);
+    bool has_none = attribute_count == 0 && is_good(reader);
+    if (has_none && is_usual_start(reader, is_known(&reader->names, place, local, prefix, uri), namespace_count, 0, searched)) {
+        hand_usual_start(reader, &reader->names.slots[place].name, 0, searched);
+        return;
+    }
+    take_full_start(context, local, prefix, uri, namespace_count, namespaces, attribute_count, default_count, attributes);
+}
+
+/* Finds the position of an end tag in the document, and moves on behind it. Of an empty element it is behind its tag. */
+static inline struct position end_position(struct reader *reader) {
+    const xmlParserInput *input = reader->feed.parser->input;
+    struct position position = {feed_offset_in(input, input->cur), reader->is_empty ? 0 : BEFORE_END_TAG};
+    reader->is_empty = false;
+    feed_move_on(&reader->feed, position.at);
+    return position;
+}
+
+/* Hands an end to the receiver. */
+static inline void hand_end(struct reader *reader, struct position position, const struct event_name *name) {
+    reader->depth--;
+    reader->feed.unfinished = 0;
+    reader->sink.end(reader->sink.context, position, name);
+}
+
+/* Takes any end. */
+static OUT_OF_LINE void take_any_end(void *context, const xmlChar *local, const xmlChar *prefix, const xmlChar *uri) {
+    struct reader *reader = context;
+    struct feed *feed = &reader->feed;
+    const struct event_name *name = name_of(reader, local, prefix, uri);
+    hand_end(reader, is_in_content(reader) ? end_position(reader) : (struct position){feed_settle(feed, feed_offset(feed)), 0}, name);
+    keep_name(reader, name);
+}
+
+/* Takes an end, as take_text does a text. */
 static void take_end(void *context, const xmlChar *local, const xmlChar *prefix, const xmlChar *uri) {
     struct reader *reader = context;
-    if (is_good(reader)) {
-        const struct event_name *name = known_name(&reader->names, reader->feed.parser->dict, local, prefix, uri);
-        struct position position = end_position(reader);
-        reader->depth--;
-        reader->feed.unfinished = 0;
-        go_on(reader, reader->sink->end(reader->sink->context, &position, name));
+    size_t place = known_place(local);
+    if (!is_good(reader)) {
+        return;
     }
+    if (!is_in_content(reader) || !is_known(&reader->names, place, local, prefix, uri)) {
+        take_any_end(context, local, prefix, uri);
+        return;
+    }
+    hand_end(reader, end_position(reader), &reader->names.slots[place].name);
 }
 
 /* The position of an instruction. */
@@ -353,21 +492,20 @@ static struct position instruction_position(struct reader *reader) {
     struct feed *feed = &reader->feed;
     uint64_t end = feed_offset(feed);
     uint64_t begin = feed_settle(feed, end);
-    if (is_in_document(reader)) {
+    if (feed_is_read(&reader->feed)) {
         while (blanks_of((char[]){feed_byte(feed, begin)}, 1) == 1) {
             begin++;
         }
         begin = feed_byte(feed, begin + 1) == '?' ? begin : feed_last(feed, end, "<?");
         feed_move(feed, end);
     }
-    return (struct position){feed, begin, NULL, 0};
+    return (struct position){begin, 0};
 }
 
 static void take_instruction(void *context, const xmlChar *target, const xmlChar *data) {
     struct reader *reader = context;
     if (is_good(reader)) {
-        struct position position = instruction_position(reader);
-        go_on(reader, reader->sink->instruction(reader->sink->context, &position, span_of(target), span_of(data)));
+        reader->sink.instruction(reader->sink.context, instruction_position(reader), span_of(target), span_of(data));
     }
 }
 
@@ -375,14 +513,14 @@ static void take_instruction(void *context, const xmlChar *target, const xmlChar
 static void take_comment(void *context, const xmlChar *text) {
     struct reader *reader = context;
     (void)text;
-    if (is_in_document(reader)) {
+    if (feed_is_read(&reader->feed)) {
         feed_move(&reader->feed, feed_offset(&reader->feed));
     }
 }
 
 /* What was read is no markup that goes on. */
 static void move_on(struct reader *reader) {
-    if (reader->fault->kind == FAULT_NONE && is_in_document(reader)) {
+    if (reader->fault->kind == FAULT_NONE && feed_is_read(&reader->feed)) {
         feed_move(&reader->feed, feed_offset(&reader->feed));
     }
 }
@@ -438,6 +576,7 @@ static void take_attribute(void *context, const xmlChar *element, const xmlChar 
     (void)type;
     (void)kind;
     declarations_attribute(&reader->declarations, element, name, value);
+    reader->is_unusual = true;
     xmlFreeEnumeration(choices);
     move_on(reader);
 }
@@ -462,7 +601,7 @@ static xmlEntityPtr give_parameter(void *context, const xmlChar *name) {
 /* Where an error is: at the tag that does not match, at the reference to the entity in whose text it is, or where libxml2 is. */
 static struct place error_place(struct reader *reader, const parser_error *error) {
     struct feed *feed = &reader->feed;
-    if (!is_in_document(reader)) {
+    if (!feed_is_read(&reader->feed)) {
         return declarations_place(&reader->declarations);
     }
     uint64_t offset = feed_offset(feed);
@@ -518,8 +657,10 @@ static void take_error(void *context, parser_error *error) {
         take_undeclared(reader, error->str1 == NULL ? "" : error->str1);
     } else if (error->domain == XML_FROM_NAMESPACE && error->code == XML_NS_ERR_QNAME) {
         reader->has_bad_name = true;
+        reader->is_unusual = true;
     } else if (error->domain == XML_FROM_NAMESPACE && error->code == XML_NS_ERR_ATTRIBUTE_REDEFINED) {
         reader->has_double = true;
+        reader->is_unusual = true;
     } else if (reader->feed.parser->instate == XML_PARSER_PI && (error->code == XML_ERR_PEREF_NO_NAME || error->code == XML_ERR_PEREF_SEMICOL_MISSING)) {
         /* libxml2 looks for references there, and XML does not (4.4) */
         fault_set(reader->fault, FAULT_OUTSIDE, error_place(reader, error), "a percent sign in an instruction of a parameter entity: outside the profile");
@@ -598,6 +739,7 @@ static void read_all(struct reader *reader) {
     }
     reader->feed.parser = parser;
     xmlParseDocument(parser);
+    keep(reader);
     check_end(reader);
     xmlDocPtr document = parser->myDoc;
     xmlFreeParserCtxt(parser);
@@ -616,29 +758,36 @@ static void read_by_libxml2(struct reader *reader) {
     void *old_context = xmlStructuredErrorContext;
     current = reader;
     xmlSetStructuredErrorFunc(NULL, ignore_error);
-    if (declarations_open(&reader->declarations, &reader->feed, reader->sink)) {
-        read_all(reader);
-    } else {
-        out_of_memory(reader);
-    }
+    declarations_open(&reader->declarations, &reader->feed, &reader->sink);
+    read_all(reader);
     declarations_free(&reader->declarations);
     xmlSetStructuredErrorFunc(old_context, old_report);
     current = outer;
     parser_memory_end(&reader->memory);
 }
 
+static void open_reader(struct reader *reader, const struct byte_source *source, const struct event_sink *sink, struct fault *fault) {
+    memset(reader, 0, offsetof(struct reader, names.slots));
+    reader->sink = *sink;
+    reader->fault = fault;
+    reader->most_depth = sink->depth == 0 ? USUAL_DEPTH : sink->depth;
+#if LIBXML_VERSION < 20911
+    reader->most_depth = reader->most_depth < USUAL_DEPTH ? reader->most_depth : USUAL_DEPTH; /* these call themselves for an element in an element */
+#endif
+    feed_open(&reader->feed, source, fault);
+    reader->feed.keep = keep;
+    reader->feed.before_read = before_read;
+    reader->feed.most = sink->memory == 0 ? USUAL_MEMORY : sink->memory;
+    reader->feed.context = reader;
+}
+
 void read_events(const struct byte_source *source, const struct event_sink *sink, struct fault *fault) {
-    struct reader *reader = calloc(1, sizeof *reader);
+    struct reader *reader = malloc(sizeof *reader);
     if (reader == NULL) {
         fault_set(fault, FAULT_MEMORY, (struct place){0, 0}, "out of memory");
         return;
     }
-    reader->sink = sink;
-    reader->fault = fault;
-    feed_open(&reader->feed, source, fault);
-    reader->feed.before_read = before_read;
-    reader->feed.most = sink->memory == 0 ? USUAL_MEMORY : sink->memory;
-    reader->feed.context = reader;
+    open_reader(reader, source, sink, fault);
     read_by_libxml2(reader);
     feed_close(&reader->feed);
     free(reader->attributes);

@@ -4,26 +4,22 @@
 
 #include "fault.h"
 
-struct feed;
-
-/* Where an event is. Its line and column are worked out when they are asked for, since most never are. */
+/* Where an event is in the document. Its line and column are worked out when they are asked for, since most never are. */
 struct position {
-    struct feed *feed;
-    uint64_t at;
-    const char *mark; /* it is where this text is last before `at`; NULL: it is at `at` */
-    size_t blanks;    /* it is at the first of so many bytes that is no blank, if one is none */
+    uint64_t at; /* an offset in its text */
+    size_t blanks; /* it is at the first of so many bytes from `at` on that is no blank, or at `at` if all are blanks; or one of these: */
 };
 
-/* The place of an event, while the receiver has the event. Events that come later have to be asked for later. */
-struct place place_of(const struct position *position);
+#define BEFORE_TAG SIZE_MAX           /* it is where `<` is last before `at` */
+#define BEFORE_END_TAG (SIZE_MAX - 1) /* it is where `</` is last before `at` */
 
-/* Keeps the position of an event instead of the one that was kept before, so that its place can be asked for later. */
-void keep_position(const struct position *position);
+/* The place of an event of the document that this thread reads, while the receiver has the event. Events that come later have to be asked for later. */
+struct place place_of(struct position position);
 
-/* The place of the position that was kept, in the document of this one. It is asked for before that of this one. */
-struct place kept_place(const struct position *position);
+/* The place of one that came since `keep`, in any order. */
+struct place earlier_place_of(struct position position);
 
-/* A name. Its texts are there until the receiver returns, and their data is never NULL. */
+/* A name. Its texts are there until the receiver returns from `keep`, and their data is never NULL. */
 struct event_name {
     struct span prefix; /* as it is written; empty: there is none */
     struct span local;
@@ -43,33 +39,33 @@ struct event_declaration {
 
 struct start_event {
     struct position position;
-    struct event_name name;
+    const struct event_name *name;
     const struct event_declaration *declarations; /* also those that are there by default */
     size_t declaration_count;
     const struct event_attribute *attributes; /* without the declarations */
     size_t attribute_count;
 };
 
-/* A text, or a part of one: those that follow each other are one. */
-struct text_event {
-    struct position position; /* of its first character that is no blank, or where it begins */
-    struct span text;
-};
-
-/* The receiver. Each function but `note`, `flush` and `held` returns false if no more is wanted. */
+/* The receiver. If it wants no more, it sets the fault of the reading. */
 struct event_sink {
-    bool (*start)(void *context, const struct start_event *start);
-    bool (*text)(void *context, const struct text_event *text);
-    bool (*end)(void *context, const struct position *position, const struct event_name *name);
-    bool (*instruction)(void *context, const struct position *position, struct span target, struct span data);
+    void (*start)(void *context, const struct start_event *start);
+    /* A text, or a part of one: those that follow each other are one. The position is that of its first character that is no blank, or where it begins. If it
+     * is raw, the document has it as it is at the position, which has its length as `blanks`, and raw_text gives it again. */
+    void (*text)(void *context, struct position position, struct span text, bool is_raw);
+    void (*end)(void *context, struct position position, const struct event_name *name);
+    void (*instruction)(void *context, struct position position, struct span target, struct span data);
     void (*note)(void *context, struct place place, const char *what); /* what is left out of the document without harm to its form */
     void (*flush)(void *context); /* comes before more of the document is read, which may take long; NULL: not wanted */
+    void (*keep)(void *context);  /* comes before names, raw texts and places of earlier events vanish, also after a fault; NULL: not wanted */
     size_t (*held)(const void *context); /* how many bytes it keeps of the document; NULL: none that grow with it */
     void *context;
     bool checks_names; /* a tag that breaks Namespaces in XML is a fault, with its clause */
     size_t depth;      /* the most elements that may be open; 0: USUAL_DEPTH */
     size_t memory;     /* the most bytes that may be held of the document; 0: USUAL_MEMORY */
 };
+
+/* The text that came since `keep` with this position, if it is raw. */
+struct span raw_text(struct position position);
 
 /* The source of the XML. `read` writes at most `size` bytes, and their number to `length`: 0 at the end. False: it failed, and the fault says why. */
 struct byte_source {

@@ -23,6 +23,7 @@ void feed_open(struct feed *feed, const struct byte_source *source, struct fault
     feed->fault = fault;
     feed->decoding = new_decoding;
     feed->place = (struct place){1, 1};
+    feed->since = feed->place;
     feed->long_at = UINT64_MAX;
 }
 
@@ -138,30 +139,35 @@ struct place feed_place(struct feed *feed, uint64_t offset) {
     return feed->place;
 }
 
-struct place place_of(const struct position *position) {
-    struct feed *feed = position->feed;
-    if (position->mark != NULL) {
-        return feed_place(feed, feed_last(feed, position->at, position->mark));
+uint64_t feed_offset_of(const struct feed *feed, struct position position) {
+    if (position.blanks >= BEFORE_END_TAG) {
+        return feed_last(feed, position.at, position.blanks == BEFORE_TAG ? "<" : "</");
     }
     size_t blanks = 0;
-    while (blanks < position->blanks && is_blank(feed_byte(feed, position->at + blanks))) {
+    while (blanks < position.blanks && is_blank(feed_byte(feed, position.at + blanks))) {
         blanks++;
     }
-    return feed_place(feed, blanks < position->blanks ? position->at + blanks : position->at);
+    return blanks < position.blanks ? position.at + blanks : position.at;
 }
 
-void keep_position(const struct position *position) {
-    position->feed->kept_position = *position;
-    position->feed->is_kept_known = false;
+void feed_since(struct feed *feed) {
+    feed->since_at = feed->place_at;
+    feed->since = feed->place;
 }
 
-struct place kept_place(const struct position *position) {
-    struct feed *feed = position->feed;
-    if (!feed->is_kept_known && feed->kept_position.feed != NULL) {
-        feed->kept_place = place_of(&feed->kept_position);
-        feed->is_kept_known = true;
+struct place feed_earlier_place(struct feed *feed, uint64_t offset) {
+    if (offset >= feed->place_at || is_in_mark(feed, offset)) {
+        return feed_place(feed, offset);
     }
-    return feed->kept_place;
+    if (offset <= feed->since_at) {
+        return feed->since;
+    }
+    return counted(feed->since, feed->text.data + (feed->since_at - feed->begin), feed->text.data + (offset - feed->begin));
+}
+
+struct span feed_text(const struct feed *feed, uint64_t offset, size_t length) {
+    bool is_there = offset >= feed->begin && offset + length <= end_of(feed);
+    return is_there ? (struct span){feed->text.data + (offset - feed->begin), length} : (struct span){"", 0};
 }
 
 uint64_t feed_settle(struct feed *feed, uint64_t end) {
@@ -213,10 +219,10 @@ static void forget_long(struct feed *feed) {
 
 /* Forgets the text that was read. What may be asked for again is kept. */
 static void forget(struct feed *feed) {
-    kept_place(&(struct position){feed, 0, NULL, 0});
     feed_place(feed, feed->next < feed->begin + feed->given ? feed->next : feed->begin + feed->given);
     cut(feed, feed->place_at < feed->next ? feed->place_at : feed->next);
     forget_long(feed);
+    feed_since(feed);
 }
 
 bool feed_is_over(const struct feed *feed) {
@@ -372,10 +378,20 @@ static void check_length(struct feed *feed, uint64_t markup) {
     feed_check_memory(feed, feed->place);
 }
 
+/* Lets libxml2 ask no more if it has all of the document. Else it asks at each token of the last 250 bytes, which takes long for many small documents. */
+static void stop_asking(struct feed *feed) {
+    xmlParserInputBufferPtr buffer = feed->parser->input == NULL ? NULL : feed->parser->input->buf;
+    bool has_all = feed->has_ended && feed->given == feed->text.length && feed->decoding.fault.kind == FAULT_NONE;
+    if (has_all && buffer != NULL && buffer->context == feed) {
+        buffer->readcallback = NULL;
+    }
+}
+
 /* libxml2 looks ahead in what it gets at once, so it gets all that it asks for unless the document ends. */
 int feed_read(void *context, char *bytes, int length) {
     struct feed *feed = context;
     size_t wanted = length > 0 ? (size_t)length : 0;
+    feed->keep(feed->context);
     while (feed->fault->kind == FAULT_NONE && feed->text.length - feed->given < wanted && !feed->has_ended && feed->decoding.fault.kind == FAULT_NONE) {
         forget(feed);
         feed->before_read(feed->context);
@@ -398,6 +414,7 @@ int feed_read(void *context, char *bytes, int length) {
     }
     memcpy(bytes, feed->text.data + feed->given, count);
     feed->given += count;
+    stop_asking(feed);
     uint64_t markup = feed_markup(feed);
     check_tag(feed, markup);
     check_choices(feed, markup);

@@ -34,6 +34,8 @@ struct feed {
     bool has_ended;     /* there is no more of the document */
     uint64_t place_at;  /* an offset, and its place */
     struct place place;
+    uint64_t since_at;  /* the same when `keep` was called last: places behind it can still be worked out */
+    struct place since;
     bool is_away;       /* libxml2 reads the external DTD, and the parser's first input is that (`away_at`: where it is in the document) */
     uint64_t away_at;
     uint64_t markup;    /* the offset after the blanks at `next`, as far as they are known */
@@ -47,12 +49,10 @@ struct feed {
     uint64_t long_at;   /* the offset of markup that is so long that its beginning is not kept, .. */
     struct place long_place;
     char long_mark[MARK_BYTES]; /* .. but its place and its first bytes */
-    struct position kept_position; /* of an event whose place may be asked for later; without a feed: of none */
-    bool is_kept_known;
-    struct place kept_place;
     size_t most;        /* the bytes that may be held of the document */
     size_t unfinished;  /* the bytes of the text that the receiver has not seen the end of */
     size_t kept;        /* the bytes that the receiver keeps otherwise */
+    void (*keep)(void *context);        /* is called before text that was read is forgotten */
     void (*before_read)(void *context); /* is called before more of the document is read, which may take long */
     void *context;
 };
@@ -63,6 +63,11 @@ void feed_close(struct feed *feed);
 /* Reads for libxml2, as its input callback. */
 int feed_read(void *feed, char *bytes, int length);
 
+/* The offset of a pointer into the text that an input of libxml2 has of the document. */
+static inline uint64_t feed_offset_in(const xmlParserInput *input, const xmlChar *pointer) {
+    return (uint64_t)input->consumed + (uint64_t)(pointer - input->base);
+}
+
 /* The offset at which libxml2 is in the document. */
 static inline uint64_t feed_offset(const struct feed *feed) {
     if (feed->is_away) {
@@ -72,20 +77,12 @@ static inline uint64_t feed_offset(const struct feed *feed) {
         return feed->begin + feed->given;
     }
     const xmlParserInput *input = feed->parser->inputTab[0];
-    return (uint64_t)input->consumed + (uint64_t)(input->cur - input->base);
+    return feed_offset_in(input, input->cur);
 }
 
-/* Whether the pointer is into the text of the document as libxml2 has it. Then sets its offset. */
-static inline bool feed_offset_of(const struct feed *feed, const xmlChar *pointer, uint64_t *offset) {
-    if (feed->parser->inputNr < 1 || feed->is_away) {
-        return false;
-    }
-    const xmlParserInput *input = feed->parser->inputTab[0];
-    if (pointer < input->base || pointer >= input->end) {
-        return false;
-    }
-    *offset = (uint64_t)input->consumed + (uint64_t)(pointer - input->base);
-    return true;
+/* Whether libxml2 reads the document itself, and not the text of an entity. */
+static inline bool feed_is_read(const struct feed *feed) {
+    return feed->parser->depth == 0 && feed->parser->inputNr == 1 && !feed->is_away;
 }
 
 /* The byte at the offset, which may be in the beginning of markup that is not kept; 0: it is not kept. */
@@ -103,9 +100,26 @@ uint64_t feed_last(const struct feed *feed, uint64_t end, const char *text);
 /* The place of an offset. Offsets before the last one that was asked for have its place. */
 struct place feed_place(struct feed *feed, uint64_t offset);
 
+/* The offset of a position. */
+uint64_t feed_offset_of(const struct feed *feed, struct position position);
+
+/* The place of an offset since the last call of feed_since, in any order. */
+struct place feed_earlier_place(struct feed *feed, uint64_t offset);
+
+/* A part of the text that is not forgotten. */
+struct span feed_text(const struct feed *feed, uint64_t offset, size_t length);
+
+/* Begins the part of the text whose places can be asked for in any order. */
+void feed_since(struct feed *feed);
+
 /* Moves on: what is before the offset was read. */
 static inline void feed_move(struct feed *feed, uint64_t next) {
     feed->next = next > feed->next ? next : feed->next;
+}
+
+/* Does the same to where libxml2 is, which is never before. */
+static inline void feed_move_on(struct feed *feed, uint64_t next) {
+    feed->next = next;
 }
 
 /* The offset of the markup that is being read, after blanks. */

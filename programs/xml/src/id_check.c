@@ -110,10 +110,10 @@ bool id_check_take(struct id_check *check, const struct start_event *tag) {
         if (text_table_find(&check->types->attributes, attribute->name.local) == NO_TEXT) {
             continue;
         }
-        struct id_names names = {tag->name.uri, tag->name.local, attribute->name.uri, attribute->name.local};
+        struct id_names names = {tag->name->uri, tag->name->local, attribute->name.uri, attribute->name.local};
         enum id_type type = id_types_find(check->types, &names, &check->key);
         if (type != ID_NONE) {
-            check->place = place_of(&tag->position);
+            check->place = place_of(tag->position);
             take_value(check, type, attribute->value, written(check, &attribute->name));
         }
     }

@@ -9,7 +9,39 @@
 
 enum {
     MOST_NOTES = 100,
+    MOST_STEPS = 16, /* starts and ends after which the library is asked whether something valid can follow */
     TEXT_BYTES = 512 /* kept of a text: enough for what is shown of it */
+};
+
+/* What a gap is. One store sets all of it. */
+struct gap_is {
+    bool text : 1;
+    bool tag : 1;    /* the start tag before: nothing comes behind it */
+    bool raw : 1;    /* the text is only in the document so far, and not kept */
+    bool cut : 1;    /* no more of the text is kept */
+    bool begun : 1;  /* what is kept of it begins with a character that is no blank */
+    bool logged : 1; /* `text_at` says where it begins in the log; else it is not there */
+    bool known : 1;  /* the judging knows the place of its position */
+};
+
+/* What is directly before a start or an end: a text, the start tag before, or neither. */
+struct gap {
+    struct position position;
+    size_t kept_at; /* where the text begins in the judge's `text`, .. */
+    size_t kept;    /* .. and how many bytes are there */
+    size_t text_at;
+    struct gap_is is;
+};
+
+/* A start or an end. The library is not asked after each one. So what is told if nothing valid can follow it is kept: positions and lengths, since that costs
+ * less than places and texts. */
+struct step {
+    struct gap gap; /* before it */
+    struct position position;
+    const struct event_name *name;
+    size_t at; /* where it begins in the log, if it is there */
+    bool is_end;
+    bool is_logged; /* it is in the log, with all before it */
 };
 
 /* A document that is being judged. */
@@ -21,12 +53,12 @@ struct judging {
     struct finding found; /* where the document is invalid, if that is known */
     rncv_verdict verdict;
     uint64_t number; /* of the starts and ends that were passed: it is the place of the last one for the library */
-    uint64_t found_number; /* .. at which the document is invalid */
-    bool has_tag;    /* nothing came behind the start tag whose position is kept */
-    bool has_text;   /* a text is directly before what comes next, whose position is kept */
-    bool is_cut;     /* no more of it is kept */
-    bool is_begun;   /* what is kept of it begins with a character that is no blank */
-    size_t text_at;          /* where it begins in the log */
+    uint64_t found_number; /* of the one at which the document is invalid */
+    struct step steps[MOST_STEPS + 1]; /* those that the library was not asked about, .. */
+    struct step *next; /* .. and the one that comes next */
+    struct place before; /* the place that the first gap knows */
+    bool has_ids;    /* IDs are checked */
+    bool is_usual;   /* as most of a large document: valid so far, behind what the log has, and without IDs */
     bool has_begun; /* a byte of the document was read, and this is the first one */
     char first;
 };
@@ -82,20 +114,16 @@ int status_of(enum verdict verdict) {
     }
 }
 
-static bool out_of_memory(struct judging *judging) {
+static OUT_OF_LINE void out_of_memory(struct judging *judging) {
     fault_set(judging->fault, FAULT_MEMORY, (struct place){0, 0}, "out of memory");
-    return false;
 }
 
-/* Whether the library has taken an event. What comes from a parser breaks no clause, if its names do not, and these were checked. */
-static bool is_taken(struct judging *judging, int32_t status) {
-    if (status == RNCV_DONE) {
-        return true;
-    }
+/* The library has not taken an event. What comes from a parser breaks no clause, if its names do not, and these were checked. */
+static OUT_OF_LINE void is_not_taken(struct judging *judging, int32_t status) {
     if (status == RNCV_MALFORMED) {
         fault_set(judging->fault, FAULT_DEVICE, (struct place){0, 0}, "the library refuses what libxml2 has read");
     }
-    return out_of_memory(judging);
+    out_of_memory(judging);
 }
 
 static void add_written(struct bytes *written, const struct event_name *name) {
@@ -112,164 +140,315 @@ static size_t blanks_of(struct span text) {
     return at;
 }
 
-/* Drops the blanks before what is kept of the text. */
-static void drop_blanks(struct judging *judging) {
+static struct span kept_text(const struct judging *judging, const struct gap *gap) {
+    bool is_there = gap->is.text && !gap->is.raw && gap->kept > 0;
+    return is_there ? (struct span){judging->judge->text.data + gap->kept_at, gap->kept} : (struct span){"", 0};
+}
+
+/* Drops the blanks before what is kept of a text. Nothing is kept behind it. */
+static inline void drop_blanks(struct judging *judging, struct gap *gap) {
     struct bytes *kept = &judging->judge->text;
-    if (!judging->is_begun) {
-        bytes_cut_front(kept, blanks_of((struct span){kept->data, kept->length}));
-        judging->is_begun = kept->length > 0;
+    if (gap->is.begun || gap->kept == 0) {
+        return;
     }
+    size_t blanks = blanks_of(kept_text(judging, gap));
+    if (blanks > 0) {
+        memmove(kept->data + gap->kept_at, kept->data + gap->kept_at + blanks, gap->kept - blanks);
+        gap->kept -= blanks;
+        kept->length -= blanks;
+    }
+    gap->is.begun = gap->kept > 0;
 }
 
-/* A start or an end that was passed to the library. */
-struct passed {
-    const struct position *position;
-    const struct event_name *name;
-    size_t at; /* where it begins in the log */
-    bool is_end;
-};
-
-/* Notes what is at the start or end after which nothing valid can follow. A fault of an element without content is reported where its tag begins. */
-static bool note_finding(struct judging *judging, const struct passed *passed) {
-    const struct judge *judge = judging->judge;
-    struct finding *found = &judging->found;
-    drop_blanks(judging);
-    found->is_there = true;
-    judging->found_number = judging->number;
-    found->is_end = passed->is_end;
-    found->has_text = judging->has_text && judge->text.length > 0;
-    found->text_place = kept_place(passed->position);
-    found->place = passed->is_end && judging->has_tag ? found->text_place : place_of(passed->position);
-    found->is_kept = !judge->log.is_full && !judge->log.bytes.failed;
-    found->at = passed->at;
-    found->text_at = judging->has_text ? judging->text_at : passed->at;
-    bytes_add(&found->text, judge->text.data, judging->has_text ? judge->text.length : 0);
-    add_written(&found->name, passed->name);
-    found->is_cut = judging->is_cut;
-    found->uri_length = passed->name->uri.length;
-    bytes_add(&found->expanded, passed->name->uri.data, passed->name->uri.length);
-    bytes_add(&found->expanded, passed->name->local.data, passed->name->local.length);
-    bool is_told = expected_get(&judging->judge->schema, &found->expected);
-    return is_told && !found->name.failed && !found->expanded.failed && !found->text.failed && !judge->text.failed;
-}
-
-/* Looks whether nothing valid can follow the start or end that was passed last. */
-static bool look(struct judging *judging, const struct passed *passed) {
-    uint64_t since = 0;
-    if (judging->found.is_there) {
-        return true;
-    }
-    if (rncv_events_invalid_since(&judging->judge->schema, &since) != RNCV_DONE) {
-        return out_of_memory(judging);
-    }
-    if (since == judging->number) {
-        return note_finding(judging, passed) || out_of_memory(judging);
-    }
-    if (since != 0) { /* one that came before, whose place is no longer known */
-        judging->found.is_there = true;
-        judging->found.is_lost = true;
-    }
-    return true;
-}
-
-static bool take_start(void *context, const struct start_event *start) {
-    struct judging *judging = context;
-    struct judge *judge = judging->judge;
-    if (!judging->found.is_there) {
-        event_log_declarations(&judge->log, start);
-    }
-    struct passed passed = {&start->position, &start->name, judge->log.bytes.length, false};
-    int32_t status = library_start(&judge->schema, &judge->room, ++judging->number, &start->name, start->attributes, start->attribute_count);
-    if (!judging->found.is_there) {
-        event_log_start(&judge->log, start);
-    }
-    if (!is_taken(judging, status) || !look(judging, &passed)) {
-        return false;
-    }
-    judging->has_tag = true;
-    keep_position(&start->position);
-    judging->has_text = false;
-    bool has_ids = judge->shared->ids != NULL && !judging->found.is_there;
-    return !has_ids || id_check_take(&judge->ids, start) || out_of_memory(judging);
+static inline void add_kept(struct judging *judging, struct gap *gap, struct span text) {
+    struct bytes *kept = &judging->judge->text;
+    size_t before = kept->length;
+    bytes_add(kept, text.data, text.length);
+    gap->kept += kept->length - before;
 }
 
 /* Keeps what there is room for of a text that is too long to be kept. It begins with a character that is no blank. No character is cut. */
-static void keep_beginning(struct judging *judging, struct span text) {
-    struct bytes *kept = &judging->judge->text;
-    drop_blanks(judging);
-    size_t begin = judging->is_begun ? 0 : blanks_of(text);
+static OUT_OF_LINE void keep_beginning(struct judging *judging, struct gap *gap, struct span text) {
+    drop_blanks(judging, gap);
+    size_t begin = gap->is.begun ? 0 : blanks_of(text);
     size_t length = text.length - begin;
-    judging->is_begun |= length > 0;
-    if (length > TEXT_BYTES - kept->length) {
-        judging->is_cut = true;
-        length = TEXT_BYTES - kept->length;
+    gap->is.begun = gap->is.begun || length > 0;
+    if (length > TEXT_BYTES - gap->kept) {
+        gap->is.cut = true;
+        length = TEXT_BYTES - gap->kept;
         while (length > 0 && ((unsigned char)text.data[begin + length] & 0xC0) == 0x80) {
             length--;
         }
     }
-    bytes_add(kept, text.data + begin, length);
+    add_kept(judging, gap, (struct span){text.data + begin, length});
 }
 
 /* Keeps the beginning of a text. Most are short, and no character of theirs is looked at. */
-static void keep_text(struct judging *judging, struct span text) {
-    struct bytes *kept = &judging->judge->text;
-    if (judging->is_cut) {
+static inline void keep_text(struct judging *judging, struct gap *gap, struct span text) {
+    if (gap->is.cut) {
         return;
     }
-    if (text.length <= TEXT_BYTES - kept->length) {
-        bytes_add(kept, text.data, text.length);
+    if (text.length <= TEXT_BYTES - gap->kept) {
+        add_kept(judging, gap, text);
     } else {
-        keep_beginning(judging, text);
+        keep_beginning(judging, gap, text);
     }
 }
 
-static bool take_text(void *context, const struct text_event *event) {
+/* Keeps a text that is only in the document so far. Nothing is kept behind it. */
+static void keep_raw(struct judging *judging, struct gap *gap) {
+    if (gap->is.raw) {
+        gap->is.raw = false;
+        gap->kept_at = judging->judge->text.length;
+        gap->kept = 0;
+        keep_text(judging, gap, raw_text(gap->position));
+    }
+}
+
+/* Notes a text before the start or end after which nothing valid can follow. What is kept of the texts behind it is needed no more. */
+static void note_text(struct judging *judging, struct gap *gap) {
+    struct finding *found = &judging->found;
+    struct bytes *kept = &judging->judge->text;
+    kept->length = kept_text(judging, gap).length > 0 ? gap->kept_at + gap->kept : 0;
+    keep_raw(judging, gap);
+    drop_blanks(judging, gap);
+    struct span text = kept_text(judging, gap);
+    found->has_text = text.length > 0;
+    found->text_at = gap->is.logged ? gap->text_at : judging->judge->log.bytes.length;
+    found->is_cut = gap->is.cut;
+    bytes_add(&found->text, text.data, text.length);
+}
+
+/* Notes what is at the start or end after which nothing valid can follow. A fault of an element without content is reported where its tag begins. */
+static bool note_finding(struct judging *judging, struct step *step) {
+    struct finding *found = &judging->found;
+    const struct event_name *name = step->name;
+    found->is_end = step->is_end;
+    found->is_kept = step->is_logged;
+    found->at = step->is_logged ? step->at : judging->judge->log.bytes.length;
+    found->text_at = found->at;
+    if (step->gap.is.text || step->gap.is.tag) {
+        found->text_place = step->gap.is.known ? judging->before : earlier_place_of(step->gap.position);
+    }
+    if (step->gap.is.text) {
+        note_text(judging, &step->gap);
+    }
+    found->place = step->is_end && step->gap.is.tag ? found->text_place : earlier_place_of(step->position);
+    add_written(&found->name, name);
+    found->uri_length = name->uri.length;
+    bytes_add(&found->expanded, name->uri.data, name->uri.length);
+    bytes_add(&found->expanded, name->local.data, name->local.length);
+    bool is_told = expected_get(&judging->judge->schema, &found->expected);
+    return is_told && !found->name.failed && !found->expanded.failed && !found->text.failed && !judging->judge->text.failed;
+}
+
+/* Begins again with the step that comes next. */
+static void begin_steps(struct judging *judging) {
+    struct bytes *kept = &judging->judge->text;
+    struct step *first = &judging->steps[0];
+    *first = *judging->next;
+    bytes_cut_front(kept, kept_text(judging, &first->gap).length > 0 ? first->gap.kept_at : kept->length);
+    first->gap.kept_at = 0;
+    judging->next = first;
+}
+
+/* Looks whether nothing valid can follow one of the starts and ends that were passed. What the library says of it does not change with later ones. */
+static void look(struct judging *judging) {
+    uint64_t since = 0;
+    size_t passed = (size_t)(judging->next - judging->steps);
+    if (passed == 0 || judging->found.is_there) {
+        return;
+    }
+    if (rncv_events_invalid_since(&judging->judge->schema, &since) != RNCV_DONE) {
+        out_of_memory(judging);
+        return;
+    }
+    if (since == 0) {
+        begin_steps(judging);
+        return;
+    }
+    uint64_t before = judging->number - passed;
+    judging->is_usual = false;
+    judging->found.is_there = true;
+    judging->found.is_lost = since <= before || since > judging->number; /* the place of another one is not known */
+    judging->found_number = judging->found.is_lost ? 0 : since;
+    if (!judging->found.is_lost && !note_finding(judging, &judging->steps[since - before - 1])) {
+        out_of_memory(judging);
+    }
+}
+
+/* Keeps what is needed of the texts and names that vanish. */
+static void keep(void *context) {
     struct judging *judging = context;
+    look(judging);
+    if (judging->found.is_there) {
+        return;
+    }
+    struct gap *gap = &judging->next->gap;
+    if ((gap->is.text || gap->is.tag) && !gap->is.known) {
+        judging->before = place_of(gap->position);
+        gap->is.known = true;
+    }
+    keep_raw(judging, gap);
+}
+
+/* There is room for one more step. */
+static inline bool has_room(const struct judging *judging) {
+    return judging->next < judging->steps + MOST_STEPS;
+}
+
+/* Ends the step of a start or an end, and begins the next one. */
+static inline void end_step(struct judging *judging, struct position position, const struct event_name *name, bool is_end) {
+    struct step *step = judging->next++;
+    step->position = position;
+    step->name = name;
+    step->is_end = is_end;
+    step->is_logged = false;
+    judging->next->gap.position = position;
+    judging->next->gap.is = (struct gap_is){.tag = !is_end};
+}
+
+/* Does the same if the step may be in the log, where it begins at `at`. */
+static void end_any_step(struct judging *judging, struct position position, const struct event_name *name, bool is_end, size_t at) {
+    struct step *step = judging->next;
+    bool is_logged = !judging->judge->log.is_full;
+    end_step(judging, position, name, is_end);
+    step->at = at;
+    step->is_logged = is_logged;
+    judging->is_usual = !is_logged && !judging->has_ids;
+}
+
+/* Passes a start to the library. False: it is not taken. */
+static OUT_OF_LINE bool pass_start(struct judging *judging, const struct start_event *start) {
     struct judge *judge = judging->judge;
-    if (!judging->has_text) {
-        judge->text.length = 0;
-        judging->is_cut = false;
-        judging->is_begun = false;
-        judging->text_at = judge->log.bytes.length;
+    int32_t status = library_start(&judge->schema, &judge->room, ++judging->number, start->name, start->attributes, start->attribute_count);
+    if (status != RNCV_DONE) {
+        is_not_taken(judging, status);
+    }
+    return status == RNCV_DONE;
+}
+
+/* Takes any start. */
+static OUT_OF_LINE void take_any_start(struct judging *judging, const struct start_event *start) {
+    struct judge *judge = judging->judge;
+    if (!has_room(judging)) {
+        look(judging);
+    }
+    if (judging->found.is_there) {
+        pass_start(judging, start);
+        return;
+    }
+    event_log_declarations(&judge->log, start);
+    size_t at = judge->log.bytes.length;
+    event_log_start(&judge->log, start);
+    if (!pass_start(judging, start)) {
+        return;
+    }
+    end_any_step(judging, start->position, start->name, false, at);
+    if (judging->has_ids && !id_check_take(&judge->ids, start)) {
+        out_of_memory(judging);
+    }
+}
+
+/* Takes a start. If the library does not take one without attributes, it takes nothing behind it either: take_any_start, take_any_end or the end of the document
+ * says so. */
+static void take_start(void *context, const struct start_event *start) {
+    struct judging *judging = context;
+    if (!judging->is_usual || !has_room(judging)) {
+        take_any_start(judging, start);
+        return;
+    }
+    end_step(judging, start->position, start->name, false);
+    if (start->attribute_count > 0) {
+        pass_start(judging, start);
     } else {
-        drop_blanks(judging);
+        library_tag(&judging->judge->schema, ++judging->number, start->name, NULL, 0);
     }
-    if (!judging->is_begun) {
-        keep_position(&event->position);
+}
+
+/* Keeps a piece of a text, unless it is the first one, and in the document. */
+static void keep_piece(struct judging *judging, struct position position, struct span text, bool is_raw) {
+    struct gap *gap = &judging->next->gap;
+    if (!gap->is.text) {
+        gap->is = (struct gap_is){.text = true, .raw = is_raw, .logged = true};
+        gap->text_at = judging->judge->log.bytes.length;
+        gap->kept_at = judging->judge->text.length;
+        gap->kept = 0;
+    } else {
+        keep_raw(judging, gap);
+        drop_blanks(judging, gap);
     }
-    judging->has_text = true;
-    judging->has_tag = false;
+    if (!gap->is.begun) {
+        gap->position = position;
+        gap->is.known = false;
+    }
+    if (!gap->is.raw) {
+        keep_text(judging, gap, text);
+    }
+}
+
+/* Takes any piece of a text. */
+static OUT_OF_LINE void take_any_text(struct judging *judging, struct position position, struct span text, bool is_raw) {
+    struct judge *judge = judging->judge;
     if (!judging->found.is_there) {
-        keep_text(judging, event->text);
-        event_log_text(&judge->log, event->text);
+        keep_piece(judging, position, text, is_raw);
+        event_log_text(&judge->log, text);
     }
-    return is_taken(judging, library_text(&judge->schema, event->text));
+    int32_t status = library_text(&judge->schema, text);
+    if (status != RNCV_DONE) {
+        is_not_taken(judging, status);
+    }
 }
 
-static bool take_end(void *context, const struct position *position, const struct event_name *name) {
+/* Takes a piece of a text. Mostly it is the first one, and in the document as it is: then it is not copied. Of the status take_start says enough. */
+static void take_text(void *context, struct position position, struct span text, bool is_raw) {
     struct judging *judging = context;
+    struct gap *gap = &judging->next->gap;
+    if (!judging->is_usual || !is_raw || gap->is.text) {
+        take_any_text(judging, position, text, is_raw);
+        return;
+    }
+    gap->position = position;
+    gap->is = (struct gap_is){.text = true, .raw = true};
+    library_text(&judging->judge->schema, text);
+}
+
+/* Takes any end. */
+static OUT_OF_LINE void take_any_end(struct judging *judging, struct position position, const struct event_name *name) {
     struct judge *judge = judging->judge;
-    struct passed passed = {position, name, judge->log.bytes.length, true};
-    int32_t status = rncv_events_end(&judge->schema, ++judging->number);
+    if (!has_room(judging)) {
+        look(judging);
+    }
+    size_t at = judge->log.bytes.length;
     if (!judging->found.is_there) {
         event_log_end(&judge->log);
     }
-    if (!is_taken(judging, status) || !look(judging, &passed)) {
-        return false;
+    int32_t status = rncv_events_end(&judge->schema, ++judging->number);
+    if (status != RNCV_DONE) {
+        is_not_taken(judging, status);
+    } else if (!judging->found.is_there) {
+        end_any_step(judging, position, name, true, at);
     }
-    judging->has_tag = false;
-    judging->has_text = false;
-    return true;
+}
+
+/* Takes an end, as take_start does a start. */
+static void take_end(void *context, struct position position, const struct event_name *name) {
+    struct judging *judging = context;
+    if (!judging->is_usual || !has_room(judging)) {
+        take_any_end(judging, position, name);
+        return;
+    }
+    end_step(judging, position, name, true);
+    rncv_events_end(&judging->judge->schema, ++judging->number);
 }
 
 /* An instruction is nothing for the judge. */
-static bool take_instruction(void *context, const struct position *position, struct span target, struct span data) {
+static void take_instruction(void *context, struct position position, struct span target, struct span data) {
     struct judging *judging = context;
     (void)position;
     (void)target;
     (void)data;
-    judging->has_tag = false;
-    return true;
+    judging->next->gap.is.tag = false;
 }
 
 /* The bytes that grow with the document: those of the IDs. */
@@ -374,6 +553,8 @@ static void refuse_notes(struct answer *answer) {
 static void end_document(struct judging *judging) {
     if (rncv_events_finish(&judging->judge->schema, &judging->verdict) != RNCV_DONE) {
         out_of_memory(judging);
+    } else if (judging->verdict.kind == RNCV_BROKEN) {
+        is_not_taken(judging, RNCV_MALFORMED);
     } else if (judging->verdict.kind == RNCV_INVALID && !judging->found.is_there) {
         judging->found.is_there = true;
         judging->found.is_lost = true;
@@ -418,7 +599,7 @@ static void answer_all(struct judging *judging) {
 
 static void read_source(struct judging *judging, const struct byte_source *source) {
     const struct shared *shared = judging->judge->shared;
-    struct event_sink sink = {take_start, take_text, take_end, take_instruction, take_note, NULL, held, judging, true, shared->depth, shared->memory};
+    struct event_sink sink = {take_start, take_text, take_end, take_instruction, take_note, NULL, keep, held, judging, true, shared->depth, shared->memory};
     read_events(source, &sink, judging->fault);
 }
 
@@ -448,10 +629,13 @@ static void judge_either(struct judge *judge, const struct byte_source *given, c
     judging.answer = answer;
     judging.fault = &fault;
     judging.verdict.kind = -1;
+    judging.next = judging.steps;
+    judging.has_ids = judge->shared->ids != NULL;
     event_log_clear(&judge->log);
     if (judge->text.failed) {
         bytes_free(&judge->text);
     }
+    bytes_clear(&judge->text);
     id_check_begin(&judge->ids);
     if (rncv_events_begin(&judge->schema) != RNCV_DONE) {
         out_of_memory(&judging);

@@ -9,13 +9,14 @@ static bool stays(xmlDictPtr dictionary, const xmlChar *text) {
     return text == NULL || xmlDictOwns(dictionary, text) == 1;
 }
 
-const struct event_name *known_name_new(struct known_names *names, struct known_name *slot, xmlDictPtr dictionary, const xmlChar *local, const xmlChar *prefix,
-                                        const xmlChar *uri) {
+const struct event_name *known_name_new(struct known_names *names, xmlDictPtr dictionary, const xmlChar *local, const xmlChar *prefix, const xmlChar *uri) {
     struct event_name name = {span_of(prefix), span_of(local), span_of(uri)};
-    if (local == NULL || !stays(dictionary, local) || !stays(dictionary, prefix) || !stays(dictionary, uri)) {
+    if (local == NULL || (name.prefix.length > 0 && name.uri.length == 0) || !stays(dictionary, local) || !stays(dictionary, prefix) || !stays(dictionary, uri)) {
         names->other = name;
         return &names->other;
     }
-    *slot = (struct known_name){local, prefix, uri, name};
-    return &slot->name;
+    size_t place = known_place(local);
+    names->locals[place] = local;
+    names->slots[place] = (struct known_name){prefix, uri, name};
+    return &names->slots[place].name;
 }

@@ -8,30 +8,33 @@
 
 #include <libxml/dict.h>
 
-enum { KNOWN_BITS = 7 };
+enum { KNOWN_BITS = 8 };
 
 struct known_name {
-    const xmlChar *local; /* NULL: there is none */
     const xmlChar *prefix;
     const xmlChar *uri;
     struct event_name name;
 };
 
+/* A table of names by their local names, each of which has one place. Before use all but the slots are set to zero. */
 struct known_names {
+    const xmlChar *locals[1 << KNOWN_BITS]; /* NULL: no name is in the slot */
+    struct event_name other;                /* one that is not kept */
     struct known_name slots[1 << KNOWN_BITS];
-    struct event_name other; /* one that is not kept */
 };
 
-/* Works the name out, and keeps it if the texts are in the dictionary, which keeps them as long as the document is read. */
-const struct event_name *known_name_new(struct known_names *names, struct known_name *slot, xmlDictPtr dictionary, const xmlChar *local, const xmlChar *prefix,
-                                        const xmlChar *uri);
+/* Works the name out, and keeps it if the texts are in the dictionary, which keeps them as long as the document is read. A name whose prefix is not declared is
+ * not kept. */
+const struct event_name *known_name_new(struct known_names *names, xmlDictPtr dictionary, const xmlChar *local, const xmlChar *prefix, const xmlChar *uri);
 
-/* The name of these texts, until the next call. NULL for a prefix or URI: there is none. */
-static inline const struct event_name *known_name(struct known_names *names, xmlDictPtr dictionary, const xmlChar *local, const xmlChar *prefix,
-                                                  const xmlChar *uri) {
-    struct known_name *slot = &names->slots[((uint64_t)(uintptr_t)local * UINT64_C(0x9E3779B97F4A7C15)) >> (64 - KNOWN_BITS)];
-    bool is_known = slot->local == local && slot->prefix == prefix && slot->uri == uri;
-    return is_known ? &slot->name : known_name_new(names, slot, dictionary, local, prefix, uri);
+/* The place for a name with this local name. */
+static inline size_t known_place(const xmlChar *local) {
+    return (size_t)(((uint64_t)(uintptr_t)local * UINT64_C(0x9E3779B97F4A7C15)) >> (64 - KNOWN_BITS));
+}
+
+/* Whether the name of these texts is at the place of its local name. NULL for a prefix or URI: there is none. */
+static inline bool is_known(const struct known_names *names, size_t place, const xmlChar *local, const xmlChar *prefix, const xmlChar *uri) {
+    return names->locals[place] == local && names->slots[place].prefix == prefix && names->slots[place].uri == uri;
 }
 
 #endif

@@ -12,9 +12,32 @@ struct call_room {
     size_t capacity;
 };
 
+/* Makes room for so many attributes. False: out of memory. */
+OUT_OF_LINE bool call_room_grow(struct call_room *room, size_t count);
+
+static inline const uint8_t *bytes_of_span(struct span span) {
+    return (const uint8_t *)span.data;
+}
+
 /* Passes a start, with this number as its place. The status is that of rncv_events_start. */
-int32_t library_start(rncv_schema *schema, struct call_room *room, uint64_t place, const struct event_name *name, const struct event_attribute *attributes,
-                      size_t count);
+static inline int32_t library_tag(rncv_schema *schema, uint64_t place, const struct event_name *name, const rncv_attribute *attributes, size_t count) {
+    return rncv_events_start(schema, place, bytes_of_span(name->uri), name->uri.length, bytes_of_span(name->local), name->local.length, attributes, count);
+}
+
+/* Does the same with the attributes as a parser has them. */
+static inline int32_t library_start(rncv_schema *schema, struct call_room *room, uint64_t place, const struct event_name *name,
+                                    const struct event_attribute *attributes, size_t count) {
+    if (count > room->capacity && !call_room_grow(room, count)) {
+        return RNCV_MEMORY;
+    }
+    rncv_attribute *to = room->attributes;
+    for (const struct event_attribute *from = attributes; from < attributes + count; from++, to++) {
+        *to = (rncv_attribute){bytes_of_span(from->name.uri), from->name.uri.length, bytes_of_span(from->name.local), from->name.local.length,
+                               bytes_of_span(from->value), from->value.length};
+    }
+    return library_tag(schema, place, name, room->attributes, count);
+}
+
 static inline int32_t library_text(rncv_schema *schema, struct span text) {
     return rncv_events_text(schema, (const uint8_t *)text.data, text.length);
 }

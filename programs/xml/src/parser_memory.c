@@ -29,7 +29,7 @@ static void put(struct parser_block block) {
 static bool grow(void) {
     struct parser_block *old = current->slots;
     size_t old_capacity = current->capacity;
-    size_t capacity = old_capacity == 0 ? 256 : 2 * old_capacity;
+    size_t capacity = old_capacity == 0 ? 64 : 2 * old_capacity;
     struct parser_block *slots = calloc(capacity, sizeof *slots);
     if (slots == NULL) {
         return false;

@@ -31,6 +31,7 @@ struct hint {
 
 /* A document that is read once more. */
 struct second_pass {
+    struct fault *fault; /* of the reading */
     struct second *second;
     const struct answer *first; /* the fault that is known, .. */
     uint64_t first_number;      /* .. and the start or end at which it is */
@@ -257,51 +258,62 @@ static struct element *room_for(struct second *second, size_t depth) {
     return has_room && second->elements != NULL ? &second->elements[depth] : NULL;
 }
 
-static bool take_start(void *context, const struct start_event *start) {
+/* Ends the reading. */
+static void stop(struct second_pass *pass) {
+    fault_set(pass->fault, FAULT_STOPPED, (struct place){0, 0}, "stopped");
+}
+
+static void take_start(void *context, const struct start_event *start) {
     struct second_pass *pass = context;
     struct second *second = pass->second;
-    struct mark mark = {place_of(&start->position), ++pass->number};
+    struct mark mark = {place_of(start->position), ++pass->number};
     struct element *own = room_for(second, pass->depth);
     if (own == NULL) {
-        return false;
+        stop(pass);
+        return;
     }
     struct element *around = pass->depth == 0 ? NULL : &second->elements[pass->depth - 1];
     if (around != NULL) {
-        element_take_child(around, &start->name, mark);
+        element_take_child(around, start->name, mark);
         pass->held += element_held(around);
     }
     element_begin(own, start, mark);
-    find_context(second, around, own, &start->name);
+    find_context(second, around, own, start->name);
     pass->depth++;
     if (pass->number == pass->first_number) {
         mark_start(pass, around, own);
     }
-    return is_within_limits(pass) && (around == NULL || !around->failed);
+    if (!is_within_limits(pass) || (around != NULL && around->failed)) {
+        stop(pass);
+    }
 }
 
-static bool take_text(void *context, const struct text_event *text) {
+static void take_text(void *context, struct position position, struct span text, bool is_raw) {
     struct second_pass *pass = context;
-    if (pass->depth > 0) {
-        element_take_text(&pass->second->elements[pass->depth - 1], text);
+    (void)is_raw;
+    if (pass->depth == 0) {
+        return;
     }
-    return pass->depth == 0 || is_within_limits(pass);
+    element_take_text(&pass->second->elements[pass->depth - 1], position, text);
+    if (!is_within_limits(pass)) {
+        stop(pass);
+    }
 }
 
 /* No fault is before the one that is known, so the elements before it need not be judged. */
-static bool take_end(void *context, const struct position *position, const struct event_name *name) {
+static void take_end(void *context, struct position position, const struct event_name *name) {
     struct second_pass *pass = context;
     struct element *own = &pass->second->elements[pass->depth - 1];
     (void)name;
     own->is_done |= ++pass->number == pass->first_number;
     if (pass->number >= pass->first_number) {
-        judge_element(pass, position);
+        judge_element(pass, &position);
     }
     pass->depth--;
     pass->held -= pass->depth == 0 ? 0 : element_held(own - 1);
-    return true;
 }
 
-static bool take_instruction(void *context, const struct position *position, struct span target, struct span data) {
+static void take_instruction(void *context, struct position position, struct span target, struct span data) {
     struct second_pass *pass = context;
     (void)position;
     (void)target;
@@ -309,7 +321,6 @@ static bool take_instruction(void *context, const struct position *position, str
     if (pass->depth > 0) {
         pass->second->elements[pass->depth - 1].is_empty = false;
     }
-    return true;
 }
 
 /* The notes are known. */
@@ -326,7 +337,8 @@ static size_t held(const void *context) {
 
 static void read_again(struct second_pass *pass, const struct shared *shared, const struct byte_source *source) {
     struct fault fault = NO_FAULT;
-    struct event_sink sink = {take_start, take_text, take_end, take_instruction, take_note, NULL, held, pass, true, shared->depth, shared->memory};
+    struct event_sink sink = {take_start, take_text, take_end, take_instruction, take_note, NULL, NULL, held, pass, true, shared->depth, shared->memory};
+    pass->fault = &fault;
     read_events(source, &sink, &fault);
     fault_free(&fault);
 }

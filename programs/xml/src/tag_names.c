@@ -39,9 +39,9 @@ static bool is_bad(struct span name) {
 }
 
 static bool has_bad_name_in(const struct start_event *tag, struct bytes *words) {
-    if (is_bad(tag->name.local)) {
+    if (is_bad(tag->name->local)) {
         bytes_add_text(words, "the name of the element '");
-        add_name(words, &tag->name);
+        add_name(words, tag->name);
         return true;
     }
     for (size_t at = 0; at < tag->declaration_count; at++) {
@@ -100,7 +100,7 @@ static bool is_undeclared(const struct event_name *name) {
 }
 
 static bool has_undeclared(const struct start_event *tag, struct bytes *words) {
-    const struct event_name *found = is_undeclared(&tag->name) ? &tag->name : NULL;
+    const struct event_name *found = is_undeclared(tag->name) ? tag->name : NULL;
     for (size_t at = 0; at < tag->attribute_count && found == NULL; at++) {
         found = is_undeclared(&tag->attributes[at].name) ? &tag->attributes[at].name : NULL;
     }
