@@ -1,5 +1,5 @@
 -- What may come next behind events.
-use Rattle.std.specs.Prelude.{⊤, List}
+use Rattle.std.specs.Prelude.{⊤, ℕ, List}
 use Rattle.rng_model.specs.documents.PyxTrees.{Event}
 use Rattle.rng_model.specs.matching.GrammarMatching.{Reading}
 use Rattle.rng_model.specs.names.Names.{Name}
