@@ -1,14 +1,14 @@
 // Characters of names and texts.
-ghost use Rattle.std.specs.Prelude.{◌≡◌};
+ghost use Rattle.std.specs.Prelude.{◌≡◌, map};
 ghost use Rattle.std.specs.List.{list_all};
 ghost use Rattle.std.specs.Str.{chars};
 ghost use Rattle.rng_model.specs.names.Names.{is_ncname};
 ghost use Rattle.rng_model.specs.datatypes.Texts.{is_blank};
-ghost use Rattle.rng_model.specs.documents.Telling.{are_xml_chars, is_good_name};
+ghost use Rattle.rng_model.specs.documents.Telling.{are_xml_chars, is_good_attribute, is_good_name};
 ghost use Rattle.element_events.specs.plain.AsciiChars.{flaw, is_ascii_char, is_ascii_name, is_ascii_part, is_ascii_start, is_plain};
-ghost use Rattle.element_events.specs.views.Told.{name_told};
+ghost use Rattle.element_events.specs.views.Told.{attribute_told, name_told};
 
-use crate::names::ExpandedName;
+use crate::names::{Attribute, ExpandedName};
 use rng_model::{is_ncname, is_xml_char};
 
 fn is_ascii_char(byte: u8) -> bool
@@ -117,6 +117,24 @@ pub fn is_good_name(name: ExpandedName<'_>) -> bool
     ensures { result ≡ is_good_name (name_told name.entry) }
 {
     are_xml_chars(name.namespace) && is_local_name(name.local)
+}
+
+fn is_good_attribute(attribute: Attribute<'_>) -> bool
+    ensures { result ≡ is_good_attribute (attribute_told attribute.entry) }
+{
+    is_good_name(attribute.name) && are_xml_chars(attribute.value)
+}
+
+/// Returns whether each attribute has a good name, and a value of characters of XML alone.
+pub fn are_good_attributes(attributes: &[Attribute<'_>]) -> bool
+    ensures { result ≡ list_all is_good_attribute (map attribute_told attributes.now) }
+{
+    'attributes: for attribute in attributes {
+        if !is_good_attribute(*attribute) {
+            return false;
+        }
+    }
+    true
 }
 
 /// Returns whether a text has only spaces, tabs and line ends.

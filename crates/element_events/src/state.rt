@@ -8,7 +8,7 @@ ghost use Rattle.element_events.specs.views.Known.{tag_name};
 ghost use Rattle.element_events.specs.views.Told.{call, name_told, start_told};
 ghost use Rattle.element_events.specs.views.Kept.{Takes, state_of};
 
-use crate::characters::{are_xml_chars, is_blank};
+use crate::characters::{are_good_attributes, are_xml_chars, is_blank};
 use crate::fault::EventFault;
 use crate::names::{Attribute, ExpandedName};
 use crate::repeats::are_distinct;
@@ -93,7 +93,7 @@ impl State {
         ensures name { IfOk result (λ b. b ≡ true → tag_name self.new.tag ≡ name_told name.entry) }
         ensures state { state_of self.new ≡ state_of self.old }
     {
-        if !self.tag.are_good_attributes(self.alloc, attributes)? {
+        if !are_good_attributes(attributes) {
             return Ok(false);
         }
         if !are_distinct(self.alloc, attributes)? {

@@ -1,14 +1,13 @@
 // The tag that is handed out.
 ghost use Rattle.std.specs.Prelude.{◌≡◌, [], map, IfOk, None, OnOk, true};
-ghost use Rattle.std.specs.List.{list_all};
 ghost use Rattle.rng_model.specs.names.NameViews.{name_of};
 ghost use Rattle.rng_model.specs.documents.EventViews.{attribute_of, event_kind_of};
 ghost use Rattle.rng_model.specs.documents.PyxTrees.{a_start};
-ghost use Rattle.rng_model.specs.documents.Telling.{is_good_attribute, is_good_name};
+ghost use Rattle.rng_model.specs.documents.Telling.{is_good_name};
 ghost use Rattle.element_events.specs.views.Known.{tag_name};
 ghost use Rattle.element_events.specs.views.Told.{attribute_told, name_told};
 
-use crate::characters::{are_xml_chars, is_good_name};
+use crate::characters::is_good_name;
 use crate::known::{KnownNames, is_short};
 use crate::names::{Attribute, ExpandedName};
 use crate::namespaces::Namespaces;
@@ -109,50 +108,6 @@ impl Tag {
         }
         self.learn(alloc, name)?;
         self.set_own_name(alloc, name)?;
-        Ok(true)
-    }
-
-    /// Returns whether a name is good. A name that was told lately is not checked. The name of the element is lost.
-    fn is_good_name(&mut self, alloc: Global, name: ExpandedName<'_>) -> Result<bool, OutOfMemory>
-        ensures { IfOk result (λ good. good ≡ is_good_name (name_told name.entry)) }
-    {
-        if self.known.find(name).is_some() {
-            return Ok(true);
-        }
-        if !is_good_name(name) {
-            return Ok(false);
-        }
-        self.learn(alloc, name)?;
-        Ok(true)
-    }
-
-    fn is_good_attribute(
-        &mut self,
-        alloc: Global,
-        attribute: Attribute<'_>,
-    ) -> Result<bool, OutOfMemory>
-        ensures { IfOk result (λ good. good ≡ is_good_attribute (attribute_told attribute.entry)) }
-    {
-        if !self.is_good_name(alloc, attribute.name)? {
-            return Ok(false);
-        }
-        Ok(are_xml_chars(attribute.value))
-    }
-
-    /// Returns whether each attribute has a good name, and a value of characters of XML alone. The name of the element is
-    /// lost.
-    pub fn are_good_attributes(
-        &mut self,
-        alloc: Global,
-        attributes: &[Attribute<'_>],
-    ) -> Result<bool, OutOfMemory>
-        ensures { IfOk result (λ good. good ≡ list_all is_good_attribute (map attribute_told attributes.now)) }
-    {
-        'attributes: for attribute in attributes {
-            if !self.is_good_attribute(alloc, *attribute)? {
-                return Ok(false);
-            }
-        }
         Ok(true)
     }
 

@@ -2,7 +2,7 @@ use Rattle.std.proofs.Common.{◌≡◌, true, take}
 use Rattle.std.specs.List.{list_all}
 use Rattle.rng_model.specs.documents.Telling.{is_good_attribute}
 use Rattle.element_events.specs.views.Told.{attribute_told}
-use Rattle.element_events.proofs.tag.Tag.are_good_attributes.Given as goal
+use Rattle.element_events.proofs.characters.are_good_attributes.Given as goal
 
 -- the attributes so far are good
 abbrev pub invariant-attributes : goal.invariant-attributes
