@@ -4,7 +4,7 @@ use Rattle.std.specs.Prelude.{nat_lt}
 use Rattle.std.proofs.lemmas.Bool.Decides.{nat_tests}
 use Rattle.std.proofs.lemmas.Nat.{le_or_l, le_or_r}
 use Rattle.std.proofs.lemmas.Str.Ascii.{IsAscii-from_reads}
-use Rattle.rncv_c.proofs.attributes.are_ascii.Goals as goal
+use Rattle.rncv_c_values.proofs.attributes.are_ascii.Goals as goal
 
 pub bytes-preserved : goal.bytes-preserved
 bytes-preserved c =

@@ -1,5 +1,5 @@
 use Rattle.std.proofs.Common.{ℕ, ◌<◌, ◌≤◌, get_or}
-use Rattle.rncv_c.proofs.attributes.are_ascii.Given as goal
+use Rattle.rncv_c_values.proofs.attributes.are_ascii.Given as goal
 
 -- no byte so far is above all of them together
 abbrev pub invariant-bytes : goal.invariant-bytes
