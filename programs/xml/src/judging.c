@@ -350,8 +350,8 @@ static OUT_OF_LINE void take_any_start(struct judging *judging, const struct sta
     }
 }
 
-/* Takes a start. If the library does not take one without attributes, it takes nothing behind it either: take_any_start, take_any_end or the end of the document
- * says so. */
+/* Takes a start. If the library does not take one without attributes, it takes nothing behind it either. So the status is looked at only by take_any_start and
+ * take_any_end, and at the end of the document. */
 static void take_start(void *context, const struct start_event *start) {
     struct judging *judging = context;
     if (!judging->is_usual || !has_room(judging)) {

@@ -106,7 +106,7 @@ struct judge {
     struct declared declared; /* the attributes of the schema */
     struct event_log log; /* the first events of the document, to try changes to it */
     struct call_room room;
-    struct bytes text; /* the first characters of the text that is being read, with no blanks before them if it has more than these (`is_cut`) */
+    struct bytes text; /* the first characters of texts directly before the last starts and ends, if they came in pieces */
     struct id_check ids;
     struct second *second; /* what hints need, once a document was invalid; NULL: nothing yet */
 };
