@@ -192,7 +192,7 @@ static int expected_once(void) {
 
 /* Asks what a tag may have: returns 1 if it is written, 0 if a call ran out of memory. The document goes on in either case. */
 static int expected_tag_once(void) {
-    static const char wanted[] = "attribute {}b\nattribute * except ( {}b )\nrequired {}b\n";
+    static const char wanted[] = "attribute * except ( {}b )\nattribute {}b\nrequired {}b\n";
     rncv_schema schema = RNCV_NOTHING;
     uint8_t buffer[128] = {'.'};
     size_t length = 99;

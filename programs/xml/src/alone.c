@@ -306,6 +306,52 @@ static void set_name(struct finding *found, const struct event_name *name) {
     found->uri_length = name->uri.length;
 }
 
+/* The first line of the text, with its line feed. */
+static struct span first_line(struct span text) {
+    const char *feed = text.length == 0 ? NULL : memchr(text.data, '\n', text.length);
+    return (struct span){text.data, feed == NULL ? text.length : (size_t)(feed + 1 - text.data)};
+}
+
+static bool has_line(struct span text, struct span line) {
+    bool is_there = false;
+    for (struct span here = first_line(text); here.length > 0 && !is_there; here = first_line(text)) {
+        is_there = span_equal(here, line);
+        text = (struct span){text.data + here.length, text.length - here.length};
+    }
+    return is_there;
+}
+
+/* Adds the lines of what a tag may have; what it must have is left out where the other text does not have it. */
+static void add_lines(struct bytes *to, struct span text, struct span other) {
+    for (struct span line = first_line(text); line.length > 0; line = first_line(text)) {
+        bool is_wanted = line.data[0] != 'r' || has_line(other, line);
+        bytes_add(to, line.data, is_wanted ? line.length : 0);
+        text = (struct span){text.data + line.length, text.length - line.length};
+    }
+}
+
+/* Gets what the tag of the element may have as one of the elements that it may be, and must have as each of them. False: memory ran out. */
+static bool get_tag(const struct alone *alone, struct finding *found) {
+    const struct declared *declared = &alone->judge->declared;
+    struct alone one = *alone;
+    struct bytes text = NO_BYTES;
+    bool is_good = true;
+    for (uint32_t at = 0; at < declared->only_count && is_good; at++) {
+        struct bytes all = NO_BYTES;
+        one.member = declared->only[at];
+        is_good = begin(&one) == RNCV_DONE && expected_get_tag(&alone->judge->schema, finding_uri(found), finding_local(found), &text);
+        struct span own = {text.data, text.length};
+        struct span before = {found->tag.data, found->tag.length};
+        add_lines(&all, own, at == 0 ? own : before);
+        add_lines(&all, before, own);
+        is_good = is_good && !all.failed;
+        bytes_free(&found->tag);
+        found->tag = all;
+    }
+    bytes_free(&text);
+    return is_good;
+}
+
 /* Passes all up to the start or end with this number, and notes what is there. False: memory ran out, or it is the end of a child, which has nothing in it. */
 static bool find_again(struct alone_telling *telling, uint64_t number) {
     struct finding *found = &telling->found;
@@ -321,7 +367,8 @@ static bool find_again(struct alone_telling *telling, uint64_t number) {
     found->text_at = found->has_text || is_end ? found->text_at : found->at;
     found->is_kept = !log_of(telling)->is_full && !log_of(telling)->bytes.failed;
     set_name(found, is_start ? &telling->event.name : &telling->start.name);
-    return expected_get(&telling->alone->judge->schema, &found->expected) && !found->name.failed && !found->expanded.failed && !found->text.failed;
+    bool is_told = expected_get(&telling->alone->judge->schema, &found->expected) && (number != 1 || get_tag(telling->alone, found));
+    return is_told && !found->name.failed && !found->expanded.failed && !found->text.failed;
 }
 
 static bool is_before(struct place place, struct place limit) {

@@ -6,7 +6,7 @@
 
 #include <stdlib.h>
 
-enum { MOST_DEPTH = 5000, SEARCH_STEPS = 5000000 };
+enum { SEARCH_STEPS = 5000000 };
 
 bool declared_open(struct declared *declared, rncv_schema *schema) {
     size_t length = 0;
@@ -136,50 +136,6 @@ void declared_list_free(struct declared_list *list) {
 bool declared_has(struct declared *declared, uint32_t line, const struct event_name *name) {
     begin_search(declared);
     return form_class_has(&declared->form, declared->form.patterns[line].class, name->uri, name->local);
-}
-
-bool declared_name(const struct declared *declared, uint32_t line, struct span *uri, struct span *local) {
-    const struct form_class *class = &declared->form.classes[declared->form.patterns[line].class];
-    *uri = class->uri;
-    *local = class->local;
-    return class->kind == CLASS_ONE_NAME;
-}
-
-/* Whether whatever matches the part has an attribute of the line's name. */
-static bool part_requires(struct declared *declared, struct part part, uint32_t wanted, int depth) {
-    if (part.kind != PART_PATTERN || depth > MOST_DEPTH || !form_step(&declared->form)) {
-        return false;
-    }
-    struct form_line *line = &declared->form.patterns[part.number];
-    if (line->seen / 2 == declared->time) {
-        return line->seen % 2 != 0;
-    }
-    bool is_required = false;
-    struct span uri;
-    struct span local;
-    if (line->kind == LINE_ATTRIBUTE) {
-        struct span wanted_uri;
-        struct span wanted_local;
-        declared_name(declared, wanted, &wanted_uri, &wanted_local);
-        is_required = declared_name(declared, part.number, &uri, &local) && span_equal(uri, wanted_uri) && span_equal(local, wanted_local);
-    } else if (line->kind == LINE_REPETITION) {
-        is_required = part_requires(declared, line->one, wanted, depth + 1);
-    } else if (line->kind == LINE_JOINED) {
-        bool is_first = part_requires(declared, line->one, wanted, depth + 1);
-        bool needs_other = line->sign == '|' ? is_first : !is_first;
-        is_required = needs_other ? part_requires(declared, line->other, wanted, depth + 1) : is_first;
-    }
-    line->seen = 2 * declared->time + is_required;
-    return is_required;
-}
-
-bool declared_requires(struct declared *declared, const struct event_name *element, uint32_t line) {
-    bool is_required = true;
-    begin_search(declared);
-    for (uint32_t at = 0; at < declared->form.element_count && is_required; at++) {
-        is_required = !is_asked(declared, at, element) || part_requires(declared, declared->form.elements[at].one, line, 0);
-    }
-    return is_required && !declared->form.is_strange;
 }
 
 static void add_text_of(struct bytes *schema, const struct declared *declared, const struct form_line *line) {

@@ -37,12 +37,6 @@ void declared_list_free(struct declared_list *list);
 /* Whether a line of an attribute has the name. */
 bool declared_has(struct declared *declared, uint32_t line, const struct event_name *name);
 
-/* The one name of a line; false: it has more. */
-bool declared_name(const struct declared *declared, uint32_t line, struct span *uri, struct span *local);
-
-/* Whether each element with this name has to have the attribute of the line, which has one name. False too if that is not known. */
-bool declared_requires(struct declared *declared, const struct event_name *element, uint32_t line);
-
 /* Finds what the value of an attribute may be, and whether a value fits. False: that is not known. */
 bool declared_value(struct declared *declared, uint32_t line, uint32_t datatypes, struct span value, struct bytes *written, bool *fits);
 

@@ -18,6 +18,18 @@ bool expected_get(rncv_schema *schema, struct bytes *written) {
     return status == RNCV_DONE;
 }
 
+bool expected_get_tag(rncv_schema *schema, struct span uri, struct span local, struct bytes *written) {
+    size_t length = FIRST_BYTES;
+    int32_t status = RNCV_SPACE;
+    bytes_clear(written);
+    while (status == RNCV_SPACE && bytes_reserve(written, length)) {
+        status = rncv_expected_tag(schema, (const uint8_t *)uri.data, uri.length, (const uint8_t *)local.data, local.length, (uint8_t *)written->data,
+                                   written->capacity, &length);
+    }
+    written->length = status == RNCV_DONE ? length : 0;
+    return status == RNCV_DONE;
+}
+
 /* The fields of a line that are left. */
 struct fields {
     struct expected *expected;
@@ -110,34 +122,51 @@ static void read_text(struct fields *fields, bool is_value) {
     text->text = text->text.data == NULL ? (struct span){"", 0} : text->text;
 }
 
-/* Reads a line. Returns the class of an element, or 0. */
-static uint32_t read_line(struct expected *expected, char *line, size_t length) {
-    struct fields fields = {expected, line, line + length};
+/* A list of classes, and its last one. */
+struct class_list {
+    uint32_t *first;
+    uint32_t last;
+};
+
+static void append(struct expected *expected, struct class_list *list, uint32_t class) {
+    if (class != 0) {
+        *list->first = *list->first == 0 ? class : *list->first;
+        expected->classes[list->last].next = class;
+        list->last = class;
+    }
+}
+
+/* Reads a line, to one of two lists if it has a class. */
+static void read_line(struct expected *expected, struct span line, struct class_list *classes, struct class_list *required) {
+    char *begin = expected->written.data + (line.data - expected->written.data);
+    struct fields fields = {expected, begin, begin + line.length};
     struct span word = next_field(&fields);
-    if (span_is(word, "element")) {
-        return read_classes(&fields, 0);
+    if (span_is(word, "element") || span_is(word, "attribute")) {
+        append(expected, classes, read_classes(&fields, 0));
+        return;
+    }
+    if (span_is(word, "required")) {
+        append(expected, required, read_classes(&fields, 0));
+        return;
     }
     if (span_is(word, "text")) {
         expected->has_text = true;
     } else if (word.data != NULL) {
         read_text(&fields, span_is(word, "value"));
     }
-    return 0;
 }
 
 /* Reads the lines, each of which counts once. */
 static void read_lines(struct expected *expected, struct text_table *seen) {
     char *end = expected->written.data + expected->written.length;
-    uint32_t last = 0;
+    struct class_list classes = {&expected->first, 0};
+    struct class_list required = {&expected->required, 0};
     for (char *line = expected->written.data; line < end && !expected->failed;) {
         char *feed = memchr(line, '\n', (size_t)(end - line));
         size_t length = (size_t)((feed == NULL ? end : feed) - line);
         uint32_t count = seen->count;
-        uint32_t class = text_table_put(seen, (struct span){line, length}) == count ? read_line(expected, line, length) : 0;
-        if (class != 0) {
-            expected->first = expected->first == 0 ? class : expected->first;
-            expected->classes[last].next = class;
-            last = class;
+        if (text_table_put(seen, (struct span){line, length}) == count) {
+            read_line(expected, (struct span){line, length}, &classes, &required);
         }
         expected->failed |= seen->failed;
         line += length + 1;

@@ -36,7 +36,8 @@ struct expected {
     struct wanted_text *texts; /* each is there once */
     uint32_t class_count, class_capacity;
     uint32_t text_count, text_capacity;
-    uint32_t first; /* of the elements that may start, each of which is there once */
+    uint32_t first; /* of the elements that may start, or of the attributes of a tag, each of which is there once */
+    uint32_t required; /* the first of those that the tag must have: names */
     bool has_text;  /* a text that is not blank may come */
     bool failed;    /* memory ran out */
 };
@@ -44,11 +45,14 @@ struct expected {
 /* Gets the text of what may come next in the document in progress. False: memory ran out. */
 bool expected_get(rncv_schema *schema, struct bytes *written);
 
+/* Gets the text of what the tag of an element of this name may have, if it starts next in the document in progress. False: memory ran out. */
+bool expected_get_tag(rncv_schema *schema, struct span uri, struct span local, struct bytes *written);
+
 /* Reads such a text. False: memory ran out. Close it in each case. */
 bool expected_open(struct expected *expected, struct span written);
 void expected_close(struct expected *expected);
 
-/* Whether an element of this name may start. */
+/* Whether an element of this name may start, or whether the tag may have an attribute of this name. */
 bool expected_has(const struct expected *expected, struct span uri, struct span local);
 
 #endif

@@ -238,7 +238,8 @@ static bool note_finding(struct judging *judging, struct step *step) {
     found->uri_length = name->uri.length;
     bytes_add(&found->expanded, name->uri.data, name->uri.length);
     bytes_add(&found->expanded, name->local.data, name->local.length);
-    bool is_told = expected_get(&judging->judge->schema, &found->expected);
+    bool is_told = expected_get(&judging->judge->schema, &found->expected) &&
+                   (found->is_end || expected_get_tag(&judging->judge->schema, name->uri, name->local, &found->tag));
     return is_told && !found->name.failed && !found->expanded.failed && !found->text.failed && !judging->judge->text.failed;
 }
 

@@ -261,4 +261,5 @@ void finding_free(struct finding *found) {
     bytes_free(&found->expanded);
     bytes_free(&found->text);
     bytes_free(&found->expected);
+    bytes_free(&found->tag);
 }

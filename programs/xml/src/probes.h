@@ -13,7 +13,8 @@ struct finding {
     struct bytes name; /* of the element, as it is written */
     struct bytes expanded; /* the URI of its namespace, and its local name */
     size_t uri_length;
-    struct bytes expected; /* what could have come there, as the library writes it */
+    struct bytes expected; /* what could have come there, as the library writes it, .. */
+    struct bytes tag;      /* .. and what the tag could have had, if it is a start */
     bool has_text;     /* directly before it, with more than blanks */
     struct place text_place;
     struct bytes text; /* its first characters, .. */

@@ -21,6 +21,7 @@ struct words {
     struct answer *answer;
     struct bytes *line; /* the message */
     struct scope scope;
+    struct expected tag; /* what the tag of a start could have had */
     struct bytes near;  /* an expected name that is nearly the one that is there; empty: there is none */
     size_t distance;
 };
@@ -370,12 +371,13 @@ static void say_attribute(struct words *words, size_t index, const char *after) 
     say_element(words, found_name(words));
 }
 
-/* Whether the tag has an attribute that a line takes. */
-static bool has_attribute(struct words *words, uint32_t line) {
+/* Whether the tag has an attribute of this name. */
+static bool has_attribute(const struct words *words, struct span uri, struct span local) {
     const struct telling *telling = words->telling;
     bool is_there = false;
     for (size_t at = 0; at < telling->last->count && !is_there; at++) {
-        is_there = declared_has(&telling->judge->declared, line, &telling->attributes[at].name);
+        const struct event_name *name = &telling->attributes[at].name;
+        is_there = span_equal(name->uri, uri) && span_equal(name->local, local);
     }
     return is_there;
 }
@@ -396,42 +398,28 @@ static bool drop_double(struct answer *answer, size_t begin) {
     return false;
 }
 
-/* Adds the attributes that the tag could have and does not have; with `is_required` those that it has to have. */
-static void add_attributes(struct words *words, const struct declared_list *list, struct span name, bool is_required) {
-    struct declared *declared = &words->telling->judge->declared;
-    for (uint32_t at = 0; at < list->count; at++) {
-        uint32_t line = list->lines[at];
-        struct span uri;
-        struct span local;
-        bool is_wanted = declared_name(declared, line, &uri, &local) && !has_attribute(words, line) &&
-                         (!is_required || declared_requires(declared, &words->telling->last->name, line));
+/* Adds the names of attributes from this one on that the tag does not have. One that is nearly `name` is kept, unless that is empty. */
+static void add_attributes(struct words *words, uint32_t class, struct span name) {
+    for (; class != 0; class = words->tag.classes[class].next) {
+        const struct wanted_class *wanted = &words->tag.classes[class];
         size_t begin = words->answer->expected.length;
-        if (is_wanted) {
-            add_scoped(&words->answer->expected, &words->scope, uri, local, true);
+        if (wanted->kind == WANTED_NAME && !has_attribute(words, wanted->uri, wanted->local)) {
+            add_scoped(&words->answer->expected, &words->scope, wanted->uri, wanted->local, true);
             end_item(words->answer);
             if (!drop_double(words->answer, begin) && name.length > 0) {
-                keep_near(words, name, local, begin);
+                keep_near(words, name, wanted->local, begin);
             }
         }
     }
     sort_items(words->answer);
 }
 
-static void tell_attribute_not_allowed(struct words *words, const struct declared_list *list, size_t index) {
+static void tell_attribute_not_allowed(struct words *words, size_t index) {
     words->answer->reason = REASON_ATTRIBUTE;
     say_attribute(words, index, " is not allowed in ");
-    add_attributes(words, list, words->telling->attributes[index].name.local, false);
+    add_attributes(words, words->tag.first, words->telling->attributes[index].name.local);
     say_expected(words, "; expected ");
     say_near(words);
-}
-
-/* Whether the schema has an attribute of this name in the element. */
-static bool is_declared(const struct words *words, const struct declared_list *list, const struct event_name *name) {
-    bool is_there = false;
-    for (uint32_t at = 0; at < list->count && !is_there; at++) {
-        is_there = declared_has(&words->telling->judge->declared, list->lines[at], name);
-    }
-    return is_there;
 }
 
 /* Finds what the value of an attribute may be. Returns whether its own value is wrong; false too if that is not known. */
@@ -463,11 +451,12 @@ static void tell_attribute_value(struct words *words, size_t index, const struct
 /* Tells that an attribute is not allowed, or that its value is wrong. False: neither is known. */
 static bool tell_one_attribute(struct words *words, const struct declared_list *list, size_t index) {
     struct expected expected = {.first = 0};
-    if (!is_declared(words, list, &words->telling->attributes[index].name)) {
-        tell_attribute_not_allowed(words, list, index);
+    const struct event_name *name = &words->telling->attributes[index].name;
+    if (!expected_has(&words->tag, name->uri, name->local)) {
+        tell_attribute_not_allowed(words, index);
         return true;
     }
-    bool is_wrong = is_wrong_value(words, list, index, &expected);
+    bool is_wrong = list->is_known && is_wrong_value(words, list, index, &expected);
     if (is_wrong) {
         tell_attribute_value(words, index, &expected);
     }
@@ -476,9 +465,9 @@ static bool tell_one_attribute(struct words *words, const struct declared_list *
 }
 
 /* Tells which attributes are missing. False: none is required by itself. */
-static bool tell_missing(struct words *words, const struct declared_list *list) {
+static bool tell_missing(struct words *words) {
     struct answer *answer = words->answer;
-    add_attributes(words, list, (struct span){"", 0}, true);
+    add_attributes(words, words->tag.required, (struct span){"", 0});
     if (answer->expected_count == 0 || answer->expected.failed) {
         return false;
     }
@@ -494,13 +483,13 @@ static bool tell_missing(struct words *words, const struct declared_list *list) 
 }
 
 /* Tells that the attributes are wrong in some way. */
-static void tell_attributes(struct words *words, const struct declared_list *list) {
+static void tell_attributes(struct words *words) {
     words->answer->reason = REASON_ATTRIBUTES;
     say(words, ": the attributes of ");
     say_element(words, found_name(words));
     say(words, " are not those of the schema");
-    if (list->is_known) {
-        add_attributes(words, list, (struct span){"", 0}, false);
+    if (words->telling->found->is_kept) {
+        add_attributes(words, words->tag.first, (struct span){"", 0});
         say_expected(words, "; expected ");
     }
 }
@@ -521,8 +510,8 @@ static void tell_known_attributes(struct words *words, const struct declared_lis
     }
     if (!is_told && telling->attribute != SIZE_MAX) {
         tell_together(words, telling->attribute);
-    } else if (!is_told && !tell_missing(words, list)) {
-        tell_attributes(words, list);
+    } else if (!is_told && !tell_missing(words)) {
+        tell_attributes(words);
     }
 }
 
@@ -535,20 +524,20 @@ static void tell_start(struct words *words) {
     if (telling->found->is_kept && declared_open(&telling->judge->declared, &telling->judge->schema)) {
         declared_find(&telling->judge->declared, &telling->last->name, &list);
     }
-    if (list.is_known) {
+    if (telling->found->is_kept && expected_open(&words->tag, (struct span){telling->found->tag.data, telling->found->tag.length})) {
         tell_known_attributes(words, &list);
-    } else if (telling->attribute != SIZE_MAX) {
-        tell_together(words, telling->attribute);
     } else {
-        tell_attributes(words, &list);
+        tell_attributes(words);
     }
+    words->line->failed |= words->tag.failed;
+    expected_close(&words->tag);
     declared_list_free(&list);
 }
 
 /* ---- all of them */
 
 void tell(const struct telling *telling) {
-    struct words words = {telling, telling->answer, &telling->answer->message, {.depth = 0}, NO_BYTES, NOT_NEAR};
+    struct words words = {telling, telling->answer, &telling->answer->message, {.depth = 0}, {.first = 0}, NO_BYTES, NOT_NEAR};
     const struct finding *found = telling->found;
     scope_open(&words.scope, &telling->judge->log, telling->answer->stands == STANDS_TEXT ? found->text_at : found->at, found->is_kept);
     if (telling->answer->stands == STANDS_TEXT) {
