@@ -265,7 +265,7 @@ div {
         self.client.open(self.uri("a.xml"), "<a/>")
         self.marks["0"] = self.uri("a.xml"), 0
         self.texts[self.uri("a.xml")] = "<a/>"
-        for method in ("definition", "references", "documentHighlight", "prepareRename", "rename", "hover", "completion"):
+        for method in ("definition", "references", "documentHighlight", "prepareRename", "rename", "hover"):
             self.assertIsNone(self.ask(method, "0", newName="x"))
         for method in ("documentSymbol", "foldingRange"):
             self.assertIsNone(self.about(method, self.uri("a.xml")))
