@@ -1,6 +1,6 @@
 -- A text of ASCII characters of XML has only characters of XML, and a name of ASCII characters is an NCName.
-use Rattle.std.proofs.Common.{◌≡◌, ℕ, ◌<◌, Bool, true, false, ◌&&◌, ◌||◌, not, List, [], ◌∷◌, refl, ap, sym, ◌∙◌, take, drop, arith}
-use Rattle.std.proofs.lemmas.Bool.{and_parts}
+use Rattle.std.proofs.Common.{◌≡◌, ℕ, ◌<◌, Bool, true, false, ◌&&◌, ◌||◌, not, List, [], ◌∷◌, refl, ap, sym, ◌∙◌, take, drop, arith, ⊎_elim}
+use Rattle.std.proofs.lemmas.Bool.{and_from, and_parts, or_cases, or_left, or_right}
 use Rattle.std.proofs.lemmas.Bool.Decides.{nat_tests}
 use Rattle.std.proofs.lemmas.List.{take-append-drop}
 use Rattle.std.proofs.lemmas.List.Folds.{list_all-append}
@@ -43,10 +43,6 @@ all_in_rest front rest bs n x y f r e t s =
     s ∙ ap (list_all is_ascii_char) r
     ∙ sym (both_parts n bs ∙ ap (λ (b : Bool). b && list_all is_ascii_char (drop n bs)) (sym (ap (list_all is_ascii_char) f) ∙ sym e ∙ t))
 
-both_true : (a b : Bool) → a ≡ true → b ≡ true → (a && b) ≡ true
-both_true true b p q = q
-both_true false b p q = no_truth p
-
 -- more ranges, in front and behind
 wider_starts : (a b c d e : Bool) → (b || (c || (d || false))) ≡ true → (a || (b || (c || (d || e)))) ≡ true
 wider_starts true b c d e h = refl
@@ -60,11 +56,6 @@ wider_parts true b c h = refl
 wider_parts false true c h = refl
 wider_parts false false c h = no_truth h
 
-either_wider : (a b c d : Bool) → (a ≡ true → c ≡ true) → (b ≡ true → d ≡ true) → (a || b) ≡ true → (c || d) ≡ true
-either_wider true b c d f g h = rw (f refl) refl
-either_wider false b true d f g h = refl
-either_wider false b false d f g h = g h
-
 abbrev within : ℕ → ℕ → ℕ → Bool
 within low high b = nat_le low b && nat_le b high
 
@@ -73,9 +64,11 @@ name_start b e =
     wider_starts (within 0x3A 0x3A b) (within 0x41 0x5A b) (within 0x5F 0x5F b) (within 0x61 0x7A b) (is_in_ranges (drop 4 name_start_ranges) b) e
 
 name_char : (b : ℕ) → is_ascii_part b ≡ true → is_name_char b ≡ true
-name_char b e =
-    either_wider (is_ascii_start b) (within 0x2D 0x2E b || (within 0x30 0x39 b || false)) (is_name_start b) (is_in_ranges more_name_ranges b) (name_start b)
-    (wider_parts (within 0x2D 0x2E b) (within 0x30 0x39 b) (is_in_ranges (drop 2 more_name_ranges) b)) e
+name_char b e = ⊎_elim
+    (λ h. or_left (is_name_start b) (is_in_ranges more_name_ranges b) (name_start b h))
+    (λ h. or_right (is_name_start b) (is_in_ranges more_name_ranges b)
+    (wider_parts (within 0x2D 0x2E b) (within 0x30 0x39 b) (is_in_ranges (drop 2 more_name_ranges) b) h))
+    (or_cases (is_ascii_start b) (within 0x2D 0x2E b || (within 0x30 0x39 b || false)) e)
 
 start_no_colon : (b : ℕ) → is_ascii_start b ≡ true → not (is_colon b) ≡ true
 start_no_colon b e = grind (arith, nat_tests)
@@ -84,10 +77,10 @@ part_no_colon : (b : ℕ) → is_ascii_part b ≡ true → not (is_colon b) ≡ 
 part_no_colon b e = grind (arith, nat_tests)
 
 start_of : (b : ℕ) → is_ascii_start b ≡ true → (is_name_start b && not (is_colon b)) ≡ true
-start_of b e = both_true (is_name_start b) (not (is_colon b)) (name_start b e) (start_no_colon b e)
+start_of b e = and_from (is_name_start b) (not (is_colon b)) (name_start b e) (start_no_colon b e)
 
 part_of : (b : ℕ) → is_ascii_part b ≡ true → (is_name_char b && not (is_colon b)) ≡ true
-part_of b e = both_true (is_name_char b) (not (is_colon b)) (name_char b e) (part_no_colon b e)
+part_of b e = and_from (is_name_char b) (not (is_colon b)) (name_char b e) (part_no_colon b e)
 
 start_low : (b : ℕ) → is_ascii_start b ≡ true → b < 128
 start_low b e = grind (arith, nat_tests)
@@ -108,11 +101,11 @@ ascii_name [] e = no_truth e
 ascii_name (b ∷ bs) e =
     let p = and_parts (is_ascii_start b) (list_all is_ascii_part bs) e in
     ap is_ncname (chars-IsAscii (b ∷ bs) (IsAscii-cons b bs (start_low b p.0) (parts_low bs p.1)))
-    ∙ both_true (is_name_start b && not (is_colon b)) (list_all (λ d. is_name_char d && not (is_colon d)) bs) (start_of b p.0) (parts_of bs p.1)
+    ∙ and_from (is_name_start b && not (is_colon b)) (list_all (λ d. is_name_char d && not (is_colon d)) bs) (start_of b p.0) (parts_of bs p.1)
 
 all_weaker : (p q : ℕ → Bool) → ((b : ℕ) → p b ≡ true → q b ≡ true) → (bs : List ℕ) → list_all p bs ≡ true → list_all q bs ≡ true
 all_weaker p q f [] e = refl
-all_weaker p q f (b ∷ bs) e = let h = and_parts (p b) (list_all p bs) e in both_true (q b) (list_all q bs) (f b h.0) (all_weaker p q f bs h.1)
+all_weaker p q f (b ∷ bs) e = let h = and_parts (p b) (list_all p bs) e in and_from (q b) (list_all q bs) (f b h.0) (all_weaker p q f bs h.1)
 
 plain_char : (b : ℕ) → is_plain b ≡ true → is_ascii_char b ≡ true
 plain_char b e = grind (arith, nat_tests)

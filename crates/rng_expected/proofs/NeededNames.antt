@@ -1,10 +1,9 @@
 -- Names of attributes that patterns need.
-use Rattle.std.proofs.Common.{◌≡◌, ◌∙◌, ◌↔◌, ◌⊎◌, inl, inr, ℕ, ◌+◌, ◌<◌, ◌≤◌, List, [], ◌∷◌, ◌++◌, All, Bool, true, false, length, map, take, rules, get_or, suc, refl, sym, ap, subst}
+use Rattle.std.proofs.Common.{◌≡◌, ◌∙◌, ◌↔◌, ◌⊎◌, inl, inr, ℕ, ◌+◌, ◌<◌, ◌≤◌, List, [], ◌∷◌, ◌++◌, All, Bool, true, false, length, map, take, rules, get_or, refl, sym, ap, subst}
 use Rattle.std.proofs.Common.{Bor, Box, Contains, Global, Vec, arith, ⊎_elim}
-use Rattle.std.proofs.lemmas.List.{get_or_append_left, get_or_push, length-append, map_more, take_all}
+use Rattle.std.proofs.lemmas.List.{get_or_append_left, get_or_push, length-append, map_more, take_all, take_more}
 use Rattle.std.proofs.lemmas.Bool.{cases_eq}
 use Rattle.std.proofs.lemmas.List.Elements.{All-append, All-cons, All-head, All-map, All-nil, All-tail}
-use Rattle.std.proofs.Math.Seq.{take-suc}
 use Rattle.rng_model.specs.names.Names.{Name, NameClass, NameClasses, any_except, any_name, class_list, name_is, ns_except, ns_name, one_of, some_of}
 use Rattle.rng_model.specs.names.NameViews.{class_of, namespace_bytes}
 use Rattle.rng_model.specs.declared.name.NameClass as declared
@@ -43,13 +42,10 @@ module _ (n : Name) (of : ℕ → Simple ℕ) where
   members_need (m ∷ ms) = choice_needs m ms
 
 -- one more item of which something is so
-module _ {A : Type 0} (P : A → Type 0) (xs : List A) (i : ℕ) (d : A) (within : i < length xs) where
-  next : i + 1 ≡ suc i
-  next = omega arith
-
-  pub one_more : All P (take i xs) → P (get_or xs i d) → All P (take (i + 1) xs)
-  one_more all p = subst (All P) (sym (ap (λ k. take k xs) next ∙ take-suc xs i d within))
-      (All-append P (take i xs) (get_or xs i d ∷ []) all (All-cons P (get_or xs i d) [] p (All-nil P)))
+pub one_more : {A : Type 0} (P : A → Type 0) (xs : List A) (i : ℕ) (d : A) → i < length xs → All P (take i xs) → P (get_or xs i d)
+    → All P (take (i + 1) xs)
+one_more P xs i d within all p = subst (All P) (sym (take_more xs i d within))
+    (All-append P (take i xs) (get_or xs i d ∷ []) all (All-cons P (get_or xs i d) [] p (All-nil P)))
 
 -- all items are among the first ones
 pub all_of_first : {A : Type 0} (P : A → Type 0) (xs : List A) (i : ℕ) → length xs ≤ i → All P (take i xs) → All P xs

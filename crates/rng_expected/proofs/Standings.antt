@@ -1,6 +1,7 @@
 -- Where leaves stand in a pattern of a table, by its parts.
 use Rattle.std.proofs.Common.{◌≡◌, ◌↔◌, ◌⊎◌, inl, inr, ℕ, ◌<◌, List, [], ◌∷◌, ◌++◌, All, Bool, true, false, not, refl, sym, ap, ◌∙◌, subst, ⊎_elim, slice_get}
 use Rattle.std.proofs.Common.{Contains, arith}
+use Rattle.std.proofs.lemmas.Bool.{not-true}
 use Rattle.std.proofs.lemmas.List.Elements.{All-append, All-nil, Contains-append_cases, Contains-append_left, Contains-append_right, Contains-get_or}
 use Rattle.rng_model.proofs.Members.{all_from_members, first_or_later, not_in_none, one_only}
 use Rattle.rng_model.specs.simple.Table.{Table}
@@ -13,10 +14,6 @@ use Rattle.rng_deriv_table.specs.views.Trees.{choice_from, tree_over}
 use Rattle.rng_deriv_ways.proofs.PatternNodes.{IsAttribute, IsStringLeaf, a_list, a_datatype, an_except, a_value, an_attribute, found_attribute, found_string}
 use Rattle.rng_expected.specs.plain.Leaves.{Stands, StandsIn, is_leaf, lets, lets_behind, parts_where, side, takes_items}
 use Rattle.rng_expected.specs.declared.leaves.Standing.{Standing}
-
-flipped : (b : Bool) → not b ≡ true → b ≡ false
-flipped true e = absurd cc
-flipped false e = refl
 
 -- ---- numbers under tests
 
@@ -117,7 +114,7 @@ module _ (s : Standing) (of : ℕ → Simple ℕ) (l : Simple ℕ) where
   stands_itself t (node.interleave a b) is = absurd cc
   stands_itself t (node.one_or_more a) is = absurd cc
   stands_itself t (node.element e) is = under (takes_items s) true is
-  stands_itself t (node.attribute a) is = attribute_stands (found_attribute t (slice_get t.patterns a)) (flipped (takes_items s) is)
+  stands_itself t (node.attribute a) is = attribute_stands (found_attribute t (slice_get t.patterns a)) (not-true (takes_items s) is)
   stands_itself t (node.data_at d) is = string_stands (found_string t (slice_get t.patterns d)) is
 
 -- ---- the parts are below

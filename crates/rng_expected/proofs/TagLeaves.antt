@@ -1,7 +1,7 @@
 -- What the tag of an element may have, as it is found leaf by leaf.
-use Rattle.std.proofs.Common.{◌≡◌, ◌∙◌, ◌⊎◌, inl, inr, ℕ, ◌+◌, ◌<◌, List, [], ◌∷◌, ◌++◌, length, All, take, get_or, suc, true, refl, sym, ap, subst}
+use Rattle.std.proofs.Common.{◌≡◌, ◌∙◌, ◌⊎◌, inl, inr, ℕ, ◌+◌, ◌<◌, List, [], ◌∷◌, ◌++◌, length, All, take, get_or, true, refl, sym, ap, subst}
 use Rattle.std.proofs.Common.{Contains, Some, None, slice_get, arith, ⊎_elim}
-use Rattle.std.proofs.Math.Seq.{take-suc}
+use Rattle.std.proofs.lemmas.List.{take_more}
 use Rattle.std.proofs.lemmas.List.Elements.{All-append, All-cons, All-nil, Contains-append_cases, Contains-append_left, Contains-append_right, Contains-get_or}
 use Rattle.std.proofs.lemmas.Option.{get_or_from_slice_get}
 use Rattle.rng_model.proofs.Members.{one_only}
@@ -12,7 +12,6 @@ use Rattle.rng_model.specs.declared.simple.ElementId.{ElementId}
 use Rattle.rng_model.specs.declared.simple.PatternId.{PatternId}
 use Rattle.rng_model.specs.declared.simple.Simple as row
 use Rattle.rng_model.specs.declared.simple.Simple.TheVariants as simple
-use Rattle.rng_deriv_table.specs.plain.Selecting.{node_at}
 use Rattle.rng_deriv_table.specs.views.Node.{Node, node_of}
 use Rattle.rng_deriv_table.specs.views.Node as node
 use Rattle.rng_deriv_table.specs.views.PatternTable.{IsPatternTable}
@@ -35,12 +34,6 @@ string_is_no_element k an_except e = absurd cc
 string_is_no_element k a_value e = absurd cc
 
 module _ (t : Table) (ns : List Node) (n : PatternNumber) (p : Pattern) (table : IsPatternTable ns) (found : slice_get ns n.0 ≡ Some (node_of p)) where
-  over : tree_of t ns n.0 ≡ tree_over t (tree_of t ns) (node_of p)
-  over = is_over t ns n.0 p p table found refl
-
-  at : node_at ns n.0 ≡ node_of p
-  at = get_or_from_slice_get ns n.0 (node_of p) node.not_allowed found
-
   -- an element has its number
   pub element_number : (e : ElementId) → p ≡ pattern.Element e → (k : ℕ) → tree_of t ns n.0 ≡ s_leaf k → e.0 ≡ k
   element_number e is k there = let same : s_leaf e.0 ≡ s_leaf k = sym (is_over t ns n.0 p (pattern.Element e) table found is) ∙ there in cc
@@ -50,7 +43,9 @@ module _ (t : Table) (ns : List Node) (n : PatternNumber) (p : Pattern) (table :
 
   -- a first leaf of another kind is no element
   pub no_element : IsLeafAt standings.First ns n → ((e : ElementId) → p ≡ pattern.Element e → ⊥) → (k : ℕ) → tree_of t ns n.0 ≡ s_leaf k → ⊥
-  no_element leaf other k there = none p (sym (ap (is_leaf standings.First) at) ∙ leaf.leaf) other (sym over ∙ there)
+  no_element leaf other k there =
+      none p (sym (ap (is_leaf standings.First) (get_or_from_slice_get ns n.0 (node_of p) node.not_allowed found)) ∙ leaf.leaf) other
+      (sym (is_over t ns n.0 p p table found refl) ∙ there)
     where
       none : (p : Pattern) → is_leaf standings.First (node_of p) ≡ true → ((e : ElementId) → p ≡ pattern.Element e → ⊥)
           → tree_over t (tree_of t ns) (node_of p) ≡ s_leaf k → ⊥
@@ -71,7 +66,8 @@ module _ (t : Table) (ns : List Node) (n : PatternNumber) (p : Pattern) (table :
 
   -- a leaf in a tag is an attribute
   pub is_attribute : IsLeafAt standings.InTag ns n → ((a : PatternId) → p ≡ pattern.Attribute a → ⊥) → ⊥
-  is_attribute leaf other = none p (sym (ap (is_leaf standings.InTag) at) ∙ leaf.leaf) other
+  is_attribute leaf other =
+      none p (sym (ap (is_leaf standings.InTag) (get_or_from_slice_get ns n.0 (node_of p) node.not_allowed found)) ∙ leaf.leaf) other
     where
       none : (p : Pattern) → is_leaf standings.InTag (node_of p) ≡ true → ((a : PatternId) → p ≡ pattern.Attribute a → ⊥) → ⊥
       none pattern.NotAllowed is other = absurd cc
@@ -115,22 +111,16 @@ no_class_in t p other c has = no_name c has.0 (sym (none p other) ∙ has.1)
 
 -- an item of a list with one more item at its end
 module _ {A : Type 0} (xs : List A) (i : ℕ) (d : A) (within : i < length xs) where
-  next : i + 1 ≡ suc i
-  next = omega arith
-
-  cut : take (i + 1) xs ≡ take i xs ++ get_or xs i d ∷ []
-  cut = ap (λ k. take k xs) next ∙ take-suc xs i d within
-
   earlier : (x : A) → Contains (take i xs) x → Contains (take (i + 1) xs) x
-  earlier x c = subst (λ ys. Contains ys x) (sym cut) (Contains-append_left (take i xs) (get_or xs i d ∷ []) x c)
+  earlier x c = subst (λ ys. Contains ys x) (sym (take_more xs i d within)) (Contains-append_left (take i xs) (get_or xs i d ∷ []) x c)
 
   this : Contains (take (i + 1) xs) (get_or xs i d)
-  this = subst (λ ys. Contains ys (get_or xs i d)) (sym cut)
+  this = subst (λ ys. Contains ys (get_or xs i d)) (sym (take_more xs i d within))
       (Contains-append_right (take i xs) (get_or xs i d ∷ []) (get_or xs i d) (Contains-get_or (get_or xs i d ∷ []) 0 (get_or xs i d) (omega arith)))
 
   earlier_or_this : (x : A) → Contains (take (i + 1) xs) x → Contains (take i xs) x ⊎ (get_or xs i d ≡ x)
   earlier_or_this x c = ⊎_elim (λ h. inl h) (λ h. inr (one_only (get_or xs i d) x h))
-      (Contains-append_cases (take i xs) (get_or xs i d ∷ []) x (subst (λ ys. Contains ys x) cut c))
+      (Contains-append_cases (take i xs) (get_or xs i d ∷ []) x (subst (λ ys. Contains ys x) (take_more xs i d within) c))
 
 -- what is pushed
 module _ {A : Type 0} (ys more : List A) (y : A) (added : more ≡ ys ++ y ∷ []) where
