@@ -24,7 +24,7 @@ returns c = λ calls taken.
     let Has : Table → ExpectedTag → Type 0 = λ g tag. (es : List Event) → Knows (matching_in g s) es
     → MayHave (reading_of g) s.progress (name_of c.in_ok-name.name) (tag_of tag) es in
     let told : Has t c.in-Some-2.tag = subst (λ (g : Table). Has g c.in-Some-2.tag) c.deref.ensures
-    (subst (λ o. IfSome o (Has c.deref.result.now)) c.in-Some-2.is c.in_ok-expected_tag.ensures.tag) in
+    (subst (λ o. IfSome o (Has c.deref.result.now)) c.in-Some-2.is c.in_ok-tag.ensures.tag) in
     let known : Knows (matching_in t s) taken.events = subst (λ (m : Matching). Knows m taken.events) matching taken.knows in
     subst (λ (g : Table). MayHave (reading_of g) d.matching.progress (name_told c.args.name) tag taken.events) (sym grammar)
     (subst (λ (m : Matching). MayHave (reading_of t) m.progress (name_told c.args.name) tag taken.events) (sym matching)
