@@ -6,7 +6,7 @@
 mod attributes;
 mod datatypes;
 mod files;
-mod mentions;
+mod mentioned;
 mod places;
 mod status;
 mod texts;
@@ -15,7 +15,7 @@ mod told;
 pub use attributes::{AttributeBytes, NameBytes, text_attributes, text_name, text_of};
 pub use datatypes::set_of_number;
 pub use files::{SchemaFile, are_named, copied_files};
-pub use mentions::mentions;
+pub use mentioned::mentions;
 pub use places::datatype_place;
 pub use status::Status;
 pub use texts::copied;

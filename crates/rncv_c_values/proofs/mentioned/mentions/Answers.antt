@@ -1,6 +1,6 @@
 use Rattle.std.proofs.Common.{subst}
 use Rattle.rnc_places.specs.views.Mentions.{BreaksOnlyAt, IsFaultOfFile}
-use Rattle.rncv_c_values.proofs.mentions.mentions.Goals as goal
+use Rattle.rncv_c_values.proofs.mentioned.mentions.Goals as goal
 
 pub returns-in-Err-Broken-clause-refused : goal.returns-in-Err-Broken-clause-refused
 returns-in-Err-Broken-clause-refused c = λ refused.

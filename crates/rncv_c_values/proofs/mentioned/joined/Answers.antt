@@ -2,7 +2,7 @@ use Rattle.std.proofs.Common.{rules, ◌≡◌, ◌∙◌, ◌<◌, ◌+◌, ◌
 use Rattle.std.proofs.lemmas.List.{map_more}
 use Rattle.rncv_c_values.specs.views.Mentions.{with_ends}
 use Rattle.rncv_c_values.proofs.JoinedNames.{one_more}
-use Rattle.rncv_c_values.proofs.mentions.joined.Goals as goal
+use Rattle.rncv_c_values.proofs.mentioned.joined.Goals as goal
 
 pub loop-name-preserved : goal.loop-name-preserved
 loop-name-preserved c =
