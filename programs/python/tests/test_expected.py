@@ -66,7 +66,8 @@ class DocumentTest(unittest.TestCase):
             self.assertRaises(ValueError, call)
 
     def test_tags(self):
-        schema = "element a { attribute id { text }, attribute x | y { text }?, (element b { attribute * - z { text }* } | element b { attribute c { empty } })* }"
+        bodies = b"(element b { attribute * - z { text }* } | element b { attribute c { empty } })*"
+        schema = {"s.rnc": b"element a { attribute id { text }, attribute x | y { text }?, " + bodies + b" }"}
         with rncv.compile(schema) as validator, validator.events() as events:
             tag = events.expected_tag("a")
             self.assertEqual((set(tag.attributes), tag.required), ({NameClass("x"), NameClass("y"), NameClass("id")}, ("id",)))
