@@ -61,6 +61,8 @@ THREAD = "xmlGetGlobalState: out of memory"
 TEXT = re.compile(r"(?P<file>[^:]*)(:\d+:\d+)?: (?P<message>.*)(?P<verdict>)")
 GITHUB = re.compile(r"::error file=(?P<file>[^,]*)(,line=\d+,col=\d+)?,title=(?P<verdict>\w*)::(?P<message>.*)")
 VERDICTS = "not valid", "valid"
+# What is said behind the first fault of a document, and not within the words about a schema.
+HINT = re.compile(r"[^:]*:\d+:\d+: hint: .*")
 # The beginning of a note, or the closing line of --verbose.
 NOTE = re.compile(r"[^:]*:(\d+:\d+:)?( note.*)?|\d+ valid(, \d+ [a-z ]+)*(, by a schema .*)?")
 # The status of the answer, and the words.
@@ -124,7 +126,7 @@ def results_of(words, out):
     except (ValueError, KeyError):
         return None
     pattern = GITHUB if "github" in words else TEXT
-    found = [pattern.fullmatch(line) for line in out.decode().splitlines() if ": hint: " not in line]
+    found = [pattern.fullmatch(line) for line in out.decode().splitlines() if not HINT.fullmatch(line)]
     return None if None in found else [(each["file"], each["verdict"] or VERDICTS[each["message"] == "valid"], each["message"]) for each in found]
 
 
