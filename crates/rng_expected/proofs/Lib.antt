@@ -3,7 +3,9 @@ pub mod Standings
 pub mod FoundLeaves
 pub mod NextLeaves
 pub mod CollectedLeaves
+pub mod UntakenStarts
 pub mod OtherEvents
+pub mod OtherTags
 pub mod TagLeaves
 pub mod TagParts
 pub mod NeededNames
