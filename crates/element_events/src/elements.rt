@@ -1,9 +1,9 @@
 // The checker of calls.
-ghost use Rattle.std.specs.Prelude.{◌≡◌, ℕ, [], List, OnOk, IfErr, IfSome, IfNone, IsErrOf, Some, None, Err, unwrap_or};
+ghost use Rattle.std.specs.Prelude.{◌≡◌, ℕ, [], List, OnOk, IfErr, IfSome, IfNone, IsErrOf, Some, None, Err, true, unwrap_or};
 ghost use Rattle.rng_model.specs.documents.EventViews.{Hands};
 ghost use Rattle.rng_model.specs.documents.PyxTrees.{Event, a_string, an_end};
 ghost use Rattle.rng_model.specs.documents.Telling.{BeginsDocument};
-ghost use Rattle.element_events.specs.views.Kept.{Extends, IsVerdict, Kept, Stands, UnlessOutOfMemory, state_of};
+ghost use Rattle.element_events.specs.views.Kept.{Adds, Extends, IsVerdict, Kept, Stands, UnlessOutOfMemory, state_of};
 ghost use Rattle.element_events.specs.views.Told.{call, start_told};
 
 use crate::fault::EventFault;
@@ -36,13 +36,14 @@ pub struct ElementEvents {
 impl Model for ElementEvents {
     ghost Value = { Kept };
 
-    ghost view = { λ e. record { state = state_of e.state; fault = e.fault } };
+    ghost view = { λ e. record { state = state_of e.state; passed = e.state.passed; fault = e.fault } };
 }
 
 impl ElementEvents {
     /// Creates a checker that has had no call. Allocates nothing.
     pub fn new(alloc: Global) -> Self
         ensures stands { Stands result [] [] }
+        ensures passed { result.passed ≡ None }
         ensures fault { result.fault ≡ None }
     {
         ElementEvents {
@@ -69,6 +70,7 @@ impl ElementEvents {
             (Extends (Hands E.stands events.old events.new) self.old self.new (call place (start_told name.entry attributes.now))) }
         ensures begins { OnOk result ((calls sent : List Event) → Stands self.new calls sent → BeginsDocument calls sent) }
         ensures fault { IfErr result (λ f. self.new.fault ≡ Some f) }
+        ensures passed { OnOk result (self.new.passed ≡ None) }
         ensures working { OnOk result (self.new.fault ≡ None) }
         ensures sticky { IfSome self.old.fault (λ f. (result ≡ Err f) × (self.new ≡ self.old)) }
     {
@@ -90,7 +92,42 @@ impl ElementEvents {
     /// `EventFault::Memory`. Costs one pass over the text, which is copied into a buffer. RELAX NG Specification,
     /// section 2.
     pub fn text(&mut self, text: &str) -> Result<(), EventFault>
-        ensures stands { (place : ℕ) → UnlessOutOfMemory result (Extends (λ es. es ≡ []) self.old self.new (call place (a_string text.now))) }
+        ensures stands { (place : ℕ) → UnlessOutOfMemory result (Adds self.old self.new (call place (a_string text.now))) }
+        ensures kept { self.old.passed ≡ None → self.new.passed ≡ None }
+        ensures begins { OnOk result ((calls sent : List Event) → Stands self.new calls sent → BeginsDocument calls sent) }
+        ensures fault { IfErr result (λ f. self.new.fault ≡ Some f) }
+        ensures working { OnOk result (self.new.fault ≡ None) }
+        ensures sticky { IfSome self.old.fault (λ f. (result ≡ Err f) × (self.new ≡ self.old)) }
+    {
+        self.take_text(text, true)
+    }
+
+    /// Takes a text as `text` does, and keeps nothing of it but whether it is blank, unless it is behind a text that is
+    /// kept. The string that it belongs to is not handed out: before the next start or end, `passed` tells of it.
+    ///
+    /// Fails as `text` does. Costs one pass over the text. Allocates nothing, unless it is behind a text that is kept.
+    pub fn pass_text(&mut self, text: &str) -> Result<(), EventFault>
+        ensures stands { (place : ℕ) → UnlessOutOfMemory result (Adds self.old self.new (call place (a_string text.now))) }
+        ensures begins { OnOk result ((calls sent : List Event) → Stands self.new calls sent → BeginsDocument calls sent) }
+        ensures fault { IfErr result (λ f. self.new.fault ≡ Some f) }
+        ensures working { OnOk result (self.new.fault ≡ None) }
+        ensures sticky { IfSome self.old.fault (λ f. (result ≡ Err f) × (self.new ≡ self.old)) }
+    {
+        self.take_text(text, false)
+    }
+
+    /// Returns whether the string that was passed over since the last start or end is blank. Returns `None` if no
+    /// character was passed over. Allocates nothing.
+    pub fn passed(&self) -> Option<bool>
+        ensures { result ≡ self.now.passed }
+    {
+        self.state.passed()
+    }
+
+    /// Takes a text, and keeps it or passes over it.
+    fn take_text(&mut self, text: &str, keeps: bool) -> Result<(), EventFault>
+        ensures stands { (place : ℕ) → UnlessOutOfMemory result (Adds self.old self.new (call place (a_string text.now))) }
+        ensures kept { keeps ≡ true → self.old.passed ≡ None → self.new.passed ≡ None }
         ensures begins { OnOk result ((calls sent : List Event) → Stands self.new calls sent → BeginsDocument calls sent) }
         ensures fault { IfErr result (λ f. self.new.fault ≡ Some f) }
         ensures working { OnOk result (self.new.fault ≡ None) }
@@ -99,7 +136,7 @@ impl ElementEvents {
         if let Some(fault) = self.fault {
             return Err(fault);
         }
-        match self.state.text(text) {
+        match self.state.text(text, keeps) {
             Ok(()) => Ok(()),
             Err(fault) => {
                 self.fault = Some(fault);
@@ -117,6 +154,7 @@ impl ElementEvents {
         ensures stands { UnlessOutOfMemory result (Extends (Hands E.stands events.old events.new) self.old self.new (call place an_end)) }
         ensures begins { OnOk result ((calls sent : List Event) → Stands self.new calls sent → BeginsDocument calls sent) }
         ensures fault { IfErr result (λ f. self.new.fault ≡ Some f) }
+        ensures passed { OnOk result (self.new.passed ≡ None) }
         ensures working { OnOk result (self.new.fault ≡ None) }
         ensures sticky { IfSome self.old.fault (λ f. (result ≡ Err f) × (self.new ≡ self.old)) }
     {
@@ -139,6 +177,7 @@ impl ElementEvents {
     pub fn refuse(&mut self, fault: EventFault) -> EventFault
         ensures fault { result ≡ unwrap_or self.old.fault fault }
         ensures kept { self.new.fault ≡ Some result }
+        ensures passed { self.new.passed ≡ self.old.passed }
     {
         let fault = self.fault.unwrap_or(fault);
         self.fault = Some(fault);

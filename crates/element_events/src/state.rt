@@ -1,12 +1,12 @@
 // Calls one by one.
-ghost use Rattle.std.specs.Prelude.{◌≡◌, ◌↔◌, ◌&&◌, ◌==◌, ℕ, [], ◌∷◌, IfOk, OnOk, true};
+ghost use Rattle.std.specs.Prelude.{◌≡◌, ◌↔◌, ◌&&◌, ◌==◌, ℕ, [], ◌∷◌, IfOk, None, OnOk, true};
 ghost use Rattle.rng_model.specs.documents.EventViews.{Hands};
 ghost use Rattle.rng_model.specs.documents.PyxTrees.{a_string, an_end};
 ghost use Rattle.rng_model.specs.documents.Telling.{IsGood, string_at};
 ghost use Rattle.element_events.specs.plain.Calls.{nothing_taken};
 ghost use Rattle.element_events.specs.views.Known.{tag_name};
 ghost use Rattle.element_events.specs.views.Told.{call, name_told, start_told};
-ghost use Rattle.element_events.specs.views.Kept.{Takes, state_of};
+ghost use Rattle.element_events.specs.views.Kept.{Takes, TakesText, passed_after, passes, state_of};
 
 use crate::characters::{are_good_attributes, are_xml_chars, is_blank};
 use crate::fault::EventFault;
@@ -26,19 +26,23 @@ pub struct State {
     root: bool,
     /// The text behind which no start or end has come.
     text: String,
+    /// Whether such a text that was passed over is blank. Then `text` is empty.
+    passed: Option<bool>,
     tag: Tag,
 }
 
 impl State {
     /// Creates the state before the first call. Allocates nothing.
     pub fn new(alloc: Global) -> Self
-        ensures { state_of result ≡ nothing_taken }
+        ensures state { state_of result ≡ nothing_taken }
+        ensures passed { result.passed ≡ None }
     {
         State {
             alloc,
             depth: 0,
             root: false,
             text: String::new(alloc),
+            passed: None,
             tag: Tag::new(alloc),
         }
     }
@@ -48,6 +52,13 @@ impl State {
         ensures { result ≡ ((state_of self.now).root && (state_of self.now).depth == 0) }
     {
         self.root && self.depth == 0
+    }
+
+    /// Returns whether the text that was passed over is blank, if one was since the last start or end.
+    pub fn passed(&self) -> Option<bool>
+        ensures { result ≡ self.now.passed }
+    {
+        self.passed
     }
 
     /// Hands out the text, unless it is empty, as a string with this place.
@@ -110,8 +121,9 @@ impl State {
         attributes: &[Attribute<'_>],
         events: &mut E,
     ) -> Result<(), EventFault>
-        ensures { Takes result (call place (start_told name.entry attributes.now)) (state_of self.old) (state_of self.new)
+        ensures taken { Takes result (call place (start_told name.entry attributes.now)) (state_of self.old) (state_of self.new)
             (Hands E.stands events.old events.new) }
+        ensures passed { OnOk result (self.new.passed ≡ None) }
     {
         if self.is_whole() {
             return Err(EventFault::NotWellFormed);
@@ -124,32 +136,56 @@ impl State {
         };
         self.end_text(place, events)?;
         self.start_tag(place, name, attributes, events)?;
+        self.passed = None;
         self.depth = depth;
         self.root = true;
         Ok(())
     }
 
-    /// Takes a text.
-    pub fn text(&mut self, text: &str) -> Result<(), EventFault>
-        ensures { (place : ℕ) → Takes result (call place (a_string text.now)) (state_of self.old) (state_of self.new) (λ es. es ≡ []) }
+    /// Passes over a text within an element.
+    fn pass(&mut self, text: &str)
+        ensures state { state_of self.new ≡ state_of self.old }
+        ensures passed { self.new.passed ≡ passed_after text.now self.old.passed }
+    {
+        if !text.is_empty() {
+            self.passed = Some(self.passed.unwrap_or(true) && is_blank(text));
+        }
+    }
+
+    /// Returns whether a text is to be passed over: a text is kept whole or not at all.
+    fn passes(&self, keeps: bool) -> bool
+        ensures { result ≡ passes keeps self.now.passed (state_of self.now).text }
+    {
+        self.passed.is_some() || !keeps && self.text.is_empty()
+    }
+
+    /// Takes a text, and keeps it or passes over it.
+    pub fn text(&mut self, text: &str, keeps: bool) -> Result<(), EventFault>
+        ensures taken { (place : ℕ) → TakesText result (call place (a_string text.now)) self.old.passed (state_of self.old) self.new.passed (state_of self.new) }
+        ensures kept { keeps ≡ true → self.old.passed ≡ None → self.new.passed ≡ None }
     {
         if !are_xml_chars(text) {
             return Err(EventFault::NotWellFormed);
         }
-        if self.depth > 0 {
-            self.text.push_str(text)?;
-            return Ok(());
+        if self.depth == 0 {
+            return if is_blank(text) {
+                Ok(())
+            } else {
+                Err(EventFault::NotWellFormed)
+            };
         }
-        if is_blank(text) {
-            Ok(())
+        if self.passes(keeps) {
+            self.pass(text);
         } else {
-            Err(EventFault::NotWellFormed)
+            self.text.push_str(text)?;
         }
+        Ok(())
     }
 
     /// Takes the end of the innermost element.
     pub fn end<E: Events>(&mut self, place: u64, events: &mut E) -> Result<(), EventFault>
-        ensures { Takes result (call place an_end) (state_of self.old) (state_of self.new) (Hands E.stands events.old events.new) }
+        ensures taken { Takes result (call place an_end) (state_of self.old) (state_of self.new) (Hands E.stands events.old events.new) }
+        ensures passed { OnOk result (self.new.passed ≡ None) }
     {
         if self.depth == 0 {
             return Err(EventFault::NotWellFormed);
@@ -159,6 +195,7 @@ impl State {
             line: place,
             kind: EventKind::End,
         })?;
+        self.passed = None;
         self.depth -= 1;
         Ok(())
     }

@@ -102,19 +102,19 @@ module _ (d : Judging) (types : TypeSet) (s : Schema) (judges : JudgesWith types
 
   pub hopeless_from : (place : ℕ) → failed_since d ≡ Some place → d.calls.fault ≡ None → AreHopelessFrom (IsValidBySchemaWith types s) (IsUnknownIn s) calls place
   hopeless_from place failed calm =
-      hopeless d.matching.grammar types s judges_so (working d.calls calls taken.events calm taken.stands) place
+      hopeless d.matching.grammar types s judges_so (working d.calls calls taken.events calm taken.stands).2 place
       (fails_there (judges_by d.matching) (trees d.matching.grammar d.matching.patterns) taken.events d.matching.progress place failed taken.knows)
 
   pub all_known : failed_since d ≡ None → ¬ (HasRunOut d.matching) → d.calls.fault ≡ None → KnowsStarts (IsUnknownIn s) calls
   all_known none kept calm =
-      starts_known d.matching.grammar types s judges_so (working d.calls calls taken.events calm taken.stands)
+      starts_known d.matching.grammar types s judges_so (working d.calls calls taken.events calm taken.stands).2
       (names_there (judges_by d.matching) (trees d.matching.grammar d.matching.patterns) taken.events d.matching.progress none kept taken.knows)
 
   pub ended_answer : {A : Type 0} (m : Matching) → m ≡ d.matching → d.calls.fault ≡ None → (ended : Result A EventFault) (o : Result Outcome OutOfMemory)
       → IsVerdict ended calls taken.events → IfOk o (Says m) → IsAnswer (IsValidBySchemaWith types s) (IsUnknownIn s) calls (answer_by ended o)
   ended_answer m there calm (Ok x) (Ok o) document says =
       let says_so = subst (λ (m : Matching). Says m o) there says in
-      told_answer d.matching.grammar types s judges_so (working d.calls calls taken.events calm taken.stands) document o
+      told_answer d.matching.grammar types s judges_so (working d.calls calls taken.events calm taken.stands).2 document o
       (says_so document.tree (element_tree document.tree calls document.document) (subst (Knows d.matching) (sym document.events) taken.knows))
   ended_answer m there calm (Ok x) (Err e) document says = tt
   ended_answer m there calm (Err faults.Memory) o ends says = tt

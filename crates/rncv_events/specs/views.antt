@@ -1,3 +1,4 @@
 -- What the values of the code are.
+pub mod Leading
 pub mod Settled
 pub mod Told

@@ -16,6 +16,7 @@ ghost use Rattle.rncv_events.specs.Answers.{AreHopelessFrom, IsAnswer, IsResult,
 ghost use Rattle.rncv_events.specs.views.Told.{HasTaken, IsStuck, Takes, answer_by, failed_since};
 
 use crate::settling::settle;
+use crate::telling::{tell_end, tell_start, tell_text};
 use element_events::{Attribute, ElementEvents, EventFault, ExpandedName};
 use rncv_validator::Validator;
 use rng_deriv::{Matcher, MatcherState};
@@ -28,7 +29,8 @@ use std::sync::Arc;
 /// A document that is told by calls, and judged by the schema of a validator.
 ///
 /// There is no limit but memory on how deep elements nest, how many attributes a tag has and how long a text is. It
-/// keeps the names and values of a tag, up to 255 names, a text, the number of open elements, and what the matcher keeps.
+/// keeps the names and values of a tag, up to 255 names, a text that is tested, the number of open elements, and what the
+/// matcher keeps.
 #[derive(Drop)]
 pub struct EventDocument {
     alloc: Global,
@@ -46,6 +48,7 @@ impl Model for EventDocument {
     ghost use Rattle.rng_model.specs.restrictions.Restrictions.{BreaksNone};
     ghost use Rattle.rng_deriv.specs.views.Matchers.{IsStateBy};
     ghost use Rattle.rncv_validator.specs.views.FedDocuments.{HasNotRunOut, matching_of};
+    ghost use Rattle.rncv_events.specs.views.Leading.{HasPassedRightly};
     ghost use Rattle.rncv_events.specs.views.Told.{IsKeptFault, Judging};
     ghost use Rattle.rng_model.specs.contracts.name.NameClass as classes;
     ghost use Rattle.std.specs.Coded.{codes};
@@ -56,7 +59,7 @@ impl Model for EventDocument {
 
     ghost view = { λ d. record { grammar = d.grammar.value; calls = d.calls; matching = matching_of d.grammar.value d.state; fault = d.fault } };
 
-    ghost invariant = { λ d. (BreaksNone (grammar_of d.grammar.value)) × (IfSome d.state (IsStateBy d.grammar.value)) × (IsKeptFault d.calls d.state d.fault) × (IfSome d.state (HasNotRunOut d.grammar.value)) };
+    ghost invariant = { λ d. (BreaksNone (grammar_of d.grammar.value)) × (IfSome d.state (IsStateBy d.grammar.value)) × (IsKeptFault d.calls d.state d.fault) × (IfSome d.state (HasNotRunOut d.grammar.value)) × (HasPassedRightly d.calls.passed d.state d.fault) };
 }
 
 impl EventDocument {
@@ -110,15 +113,16 @@ impl EventDocument {
             unreachable!();
         };
         let mut matcher = Matcher::resume(self.alloc, &self.grammar, state);
-        let answer = self.calls.start(place, name, attributes, &mut matcher);
+        let answer = tell_start(&mut self.calls, &mut matcher, place, name, attributes);
         settle(answer, matcher, &mut self.state, &mut self.fault)
     }
 
     /// Takes a text. It may be empty, and may be a part of a string: texts that follow each other are one string. The
     /// string has the place of the start or the end that follows it.
     ///
-    /// Fails as `start` does. Costs one pass over the text, which is copied into a buffer. RELAX NG Specification,
-    /// section 2.
+    /// Fails as `start` does. Costs one pass over the text. It is copied into a buffer if an alternative that is left tests
+    /// what a string says, as a datatype does. Otherwise nothing of it is kept but whether the string is blank, as where
+    /// the schema has `text` or only elements. RELAX NG Specification, section 2.
     pub fn text(&mut self, text: &str) -> Result<(), EventFault>
         ensures grammar { self.new.grammar ≡ self.old.grammar }
         ensures taken { (place : ℕ) → UnlessOutOfMemory result (Takes self.old self.new (call place (a_string text.now))) }
@@ -131,7 +135,11 @@ impl EventDocument {
         if let Some(fault) = self.fault {
             return Err(fault);
         }
-        match self.calls.text(text) {
+        let Some(state) = &self.state else {
+            unreachable!();
+        };
+        let tests_strings = state.tests_strings();
+        match tell_text(&mut self.calls, tests_strings, text) {
             Ok(()) => Ok(()),
             Err(fault) => {
                 self.fault = Some(fault);
@@ -159,7 +167,7 @@ impl EventDocument {
             unreachable!();
         };
         let mut matcher = Matcher::resume(self.alloc, &self.grammar, state);
-        let answer = self.calls.end(place, &mut matcher);
+        let answer = tell_end(&mut self.calls, &mut matcher, place);
         settle(answer, matcher, &mut self.state, &mut self.fault)
     }
 

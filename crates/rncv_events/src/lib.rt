@@ -7,6 +7,7 @@
 
 mod document;
 mod settling;
+mod telling;
 
 pub use document::EventDocument;
 pub use element_events::{Attribute, EventFault, ExpandedName};

@@ -1,9 +1,11 @@
 -- A matcher of a grammar, given what the event matcher inside it does.
-use Rattle.std.proofs.Common.{◌≡◌, ◌∙◌, ℕ, List, [], ◌∷◌, ◌++◌, Result, Ok, Err, OnOk, append_assoc, sym, ap, subst}
+use Rattle.std.proofs.Common.{◌≡◌, ◌∙◌, ℕ, Bool, List, [], ◌∷◌, ◌++◌, Result, Ok, Err, OnOk, append_assoc, sym, ap, subst}
 use Rattle.rng_model.specs.documents.EventViews.{Hands}
-use Rattle.rng_model.specs.documents.PyxTrees.{Event}
+use Rattle.rng_model.specs.datatypes.Texts.{is_blank}
+use Rattle.rng_model.specs.documents.PyxTrees.{Event, a_string}
 use Rattle.rng_model.specs.matching.GrammarMatching.{reading_of}
 use Rattle.rng_deriv_events.specs.views.Basis.{Basis}
+use Rattle.rng_deriv_events.specs.views.Inputs.{event_at}
 use Rattle.rng_deriv.specs.views.Matchers.{HasFailedAt, HasGoneOn, HasRunOut, Knows, Matching, judges_by}
 
 -- the grammar is in the basis
@@ -28,6 +30,15 @@ module _ (inside m : Matching) (is : inside ≡ m) where
         kept = λ lost. absurd (kept lost);
       }
   goes_on new e (Err f) same on failed kept = tt
+
+  -- a string of which only this is known: whether it is blank
+  pub any_goes_on : {A E : Type 0} (new : Matching) (line : ℕ) (blank : Bool) (r : Result A E) → OnOk r (new.grammar ≡ inside.grammar)
+      → OnOk r ((text : List ℕ) (es : List Event) → is_blank text ≡ blank → Knows inside es → Knows new (es ++ event_at line (a_string text) ∷ []))
+      → ((at : ℕ) → HasFailedAt inside at → OnOk r (HasFailedAt new at)) → OnOk r (¬ (HasRunOut new))
+      → OnOk r ((text : List ℕ) → is_blank text ≡ blank → Hands HasGoneOn m new (event_at line (a_string text) ∷ []))
+  any_goes_on {A} {E} new line blank (Ok x) same on failed kept = λ text is.
+      goes_on {A = A} {E = E} new (event_at line (a_string text)) (Ok x) same (λ es. on text es is) failed kept
+  any_goes_on new line blank (Err f) same on failed kept = tt
 
   -- what has failed stays so
   pub stays_failed : {A E : Type 0} (new : Matching) (r : Result A E) → ((line : ℕ) → HasFailedAt inside line → OnOk r (HasFailedAt new line))

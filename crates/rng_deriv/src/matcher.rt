@@ -1,5 +1,5 @@
 // The matcher of a grammar.
-ghost use Rattle.std.specs.Prelude.{◌≡◌, ℕ, List, [], ◌∷◌, ◌++◌, IfOk, IsErr, OnErr, OnOk};
+ghost use Rattle.std.specs.Prelude.{◌≡◌, ℕ, List, [], ◌∷◌, ◌++◌, IfOk, IsErr, OnErr, OnOk, false};
 ghost use Rattle.rng_model.specs.simple.Table.{grammar_of};
 ghost use Rattle.rng_model.specs.restrictions.Restrictions.{BreaksNone};
 ghost use Rattle.rng_model.specs.documents.EventViews.{event_of, Hands};
@@ -8,6 +8,8 @@ ghost use Rattle.rng_model.specs.documents.PyxTrees as trees;
 ghost use Rattle.rng_model.specs.documents.PyxTrees.{Placed, events_of};
 ghost use Rattle.rng_model.specs.matching.GrammarMatching.{reading_of};
 ghost use Rattle.rng_deriv_laws.specs.plain.Outcomes.{IsOutcome};
+ghost use Rattle.rng_model.specs.datatypes.Texts.{is_blank};
+ghost use Rattle.rng_deriv_events.specs.views.Inputs.{event_at, tests_strings};
 ghost use Rattle.rng_deriv.specs.views.Matchers.{HasFailedAt, HasGoneOn, HasRunOut, IsStateBy, Knows, judges_by, matching_in};
 ghost use Rattle.rng_model.specs.declared.outcome.Outcome.{Outcome};
 
@@ -90,6 +92,20 @@ impl<'a> Matcher<'a> {
         let (derivatives, progress) = self.matcher.into_parts();
         let GrammarDerivatives { learned, .. } = derivatives;
         MatcherState { learned, progress }
+    }
+
+    /// Takes a string of which only this is known: whether it is blank. No alternative that is left tests what a string
+    /// says (`MatcherState::tests_strings`), so each such string leads to the same.
+    ///
+    /// RELAX NG Specification, sections 6.2 and 6.2.7. Fails only when out of memory. Costs a few comparisons, once a string
+    /// has come where the same alternatives were left.
+    pub fn take_any_text(&mut self, line: u64, blank: bool) -> Result<(), OutOfMemory>
+        requires { tests_strings self.old.progress ≡ false }
+        ensures stands { OnOk result ((text : List ℕ) → is_blank text ≡ blank
+            → Hands HasGoneOn self.old self.new (event_at line (trees.a_string text) ∷ [])) }
+        ensures lost { OnErr result (HasRunOut self.new) }
+    {
+        self.matcher.take_any_text(line, blank)
     }
 
     /// Returns the outcome of the document with the events that were taken: `Valid` exactly if the document is valid by

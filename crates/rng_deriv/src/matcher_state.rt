@@ -5,6 +5,7 @@ ghost use Rattle.rng_model.specs.documents.PyxTrees as trees;
 ghost use Rattle.rng_model.specs.matching.GrammarMatching.{reading_of};
 ghost use Rattle.rng_model.specs.names.NameViews.{name_of};
 ghost use Rattle.rng_expected.specs.views.Next.{next_of, tag_of};
+ghost use Rattle.rng_deriv_events.specs.views.Inputs.{tests_strings};
 ghost use Rattle.rng_deriv_events.specs.views.Positions.{failed_line};
 ghost use Rattle.rng_deriv.specs.views.Alternatives.{unless_lost};
 ghost use Rattle.rng_deriv.specs.views.Followers.{MayFollow, MayHave};
@@ -51,6 +52,15 @@ impl MatcherState {
             Progress::Failed { line, .. } => Some(line),
             Progress::Going { .. } | Progress::Lost => None,
         }
+    }
+
+    /// Returns whether an alternative that is left contains a data, a value or a list, so that it tests what a string says.
+    /// Otherwise it only matters whether a string is blank (`Matcher::take_any_text`). False once no continuation is
+    /// valid. True after a call that ran out of memory. Allocates nothing. RELAX NG Specification, section 6.2.
+    pub fn tests_strings(&self) -> bool
+        ensures { result ≡ tests_strings self.now.progress }
+    {
+        self.progress.tests_strings()
     }
 
     /// Returns what may come next in the innermost open element, or what could have come before the event after which no

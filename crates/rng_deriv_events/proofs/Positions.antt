@@ -88,10 +88,10 @@ module _ (g : Reading) where
   }
 
   -- a string
-  pub string_step : (text : List ℕ) (old new : List (Simple ℕ)) (p : OpenPosition) (h : HeldString) (r : OpenPosition) → IsPositionInside old p →
-      AddsHeld (λ s. s ≡ text) g old new p.state.now h → r.state ≡ p.state → r.has_begun ≡ p.has_begun → r.held ≡ Some h
+  pub string_step : (Is : List ℕ → Type 0) (text : List ℕ) (old new : List (Simple ℕ)) (p : OpenPosition) (h : HeldString) (r : OpenPosition) → Is text →
+      IsPositionInside old p → AddsHeld Is g old new p.state.now h → r.state ≡ p.state → r.has_begun ≡ p.has_begun → r.held ≡ Some h
       → AddsStep g (a_string text) old new p r
-  string_step text old new p h r inside a same begun held = record {
+  string_step Is text old new p h r is inside a same begun held = record {
     longer = a.longer;
     inside = record {
       state = subst (IsStateInside new) (sym same) (state_inside_stays old new a.longer p.state inside.state);
@@ -104,7 +104,7 @@ module _ (g : Reading) where
       position = record {
         state = of.state ∙ sym (state_stays old new a.longer p.state inside.state) ∙ ap (state_of new) (sym same);
         has_begun = of.has_begun ∙ sym begun;
-        held = subst (λ s. IsHeld g new s.now r.held text) (sym same) (subst (λ h. IsHeld g new p.state.now h text) (sym held) (a.held text refl));
+        held = subst (λ s. IsHeld g new s.now r.held text) (sym same) (subst (λ h. IsHeld g new p.state.now h text) (sym held) (a.held text is));
       };
     };
   }

@@ -1,6 +1,6 @@
 -- What is left after the sample string of a level is left after each string that it is an example for.
 use Rattle.std.proofs.Common.{◌≡◌, ◌∙◌, inl, inr, ℕ, ◌<◌, List, [], ◌∷◌, map, refl, sym, ap, subst, Bool, true, false, Some, slice_get, codes, All, length}
-use Rattle.std.proofs.Common.{if◌then◌else◌}
+use Rattle.std.proofs.Common.{if◌then◌else◌, Option, None}
 use Rattle.std.specs.List.{AllZip, list_any}
 use Rattle.rng_model.proofs.Places.{all_at as all_there}
 use Rattle.rng_names.specs.plain.Keys.{Keys}
@@ -11,7 +11,7 @@ use Rattle.rng_deriv_laws.specs.plain.Derivatives.{has_data}
 use Rattle.rng_deriv_laws.specs.plain.LevelStates.{IsAfterText}
 use Rattle.rng_deriv_laws.proofs.AnyTexts.{after_any_text, not_first, not_second}
 use Rattle.rng_deriv_table.specs.declared.pattern.PatternNumber.{PatternNumber}
-use Rattle.rng_deriv_events.specs.views.LevelTable.{levels_in, numbers_in, numbers_or_none, sample_in, sample_of}
+use Rattle.rng_deriv_events.specs.views.LevelTable.{levels_in, numbers_in, numbers_or_none, sample_in, sample_of, tests_in, tests_or_true}
 use Rattle.rng_deriv_events.specs.declared.level_table.level.Level.{Level}
 use Rattle.rng_deriv_events.specs.declared.level_table.level.LevelNumber.{LevelNumber}
 use Rattle.rng_deriv_events.specs.declared.level_table.table.LevelTable.{LevelTable}
@@ -35,6 +35,13 @@ tests_none : (trees : List (Simple ℕ)) (levels : List Level) (n : ℕ) (l : Le
     → l.tests_strings ≡ false → list_any has_data (map (tree_of trees) (numbers_in levels n)) ≡ false
 tests_none trees levels n l all at none =
     ap (λ o. list_any has_data (map (tree_of trees) (numbers_or_none o))) at ∙ sym (all_there (IsLevelKept trees) levels n l all at).tests ∙ none
+
+-- a level of which no alternative tests what a string says
+pub untested : (levels : List Level) (n : ℕ) → tests_in levels n ≡ false → (l : Level) × (slice_get levels n ≡ Some l) × (l.tests_strings ≡ false)
+untested levels n none = by (slice_get levels n) refl none where
+  by : (o : Option Level) → slice_get levels n ≡ o → tests_or_true o ≡ false → (l : Level) × (slice_get levels n ≡ Some l) × (l.tests_strings ≡ false)
+  by None is none = absurd (cc)
+  by (Some l) is none = (l, is, none)
 
 module _ (g : Reading) (keys : Keys) (old new : List (Simple ℕ)) (t u : LevelTable) (n : ℕ) (l : Level) (s : List ℕ) (m : LevelNumber)
     (kept : AreKept g keys old t) (lt : n < length (levels_in t)) (at : slice_get (levels_in t) n ≡ Some l) (like : IsLikeSample (Some l) s)

@@ -2,6 +2,7 @@
 pub mod LevelTable
 pub mod Basis
 pub mod Innermost
+pub mod Inputs
 pub mod KeptLevels
 pub mod Levels
 pub mod LevelsLeft

@@ -1,10 +1,12 @@
 // A matcher over any derivatives.
-ghost use Rattle.std.specs.Prelude.{◌≡◌, ℕ, List, [], ◌∷◌, ◌++◌, IfOk, IsErr, OnErr, OnOk};
+ghost use Rattle.std.specs.Prelude.{◌≡◌, ℕ, List, [], ◌∷◌, ◌++◌, IfOk, IsErr, OnErr, OnOk, false};
 ghost use Rattle.rng_names.specs.plain.Keys.{Keys};
 ghost use Rattle.rng_model.specs.simple.Tree.{Simple};
 ghost use Rattle.rng_model.specs.matching.GrammarMatching.{Reading};
 ghost use Rattle.rng_deriv_events.specs.views.Basis.{HoldsBy, reading_by};
+ghost use Rattle.rng_deriv_events.specs.views.Inputs.{IsOf, Serves, event_at, tests_strings};
 ghost use Rattle.rng_deriv_events.specs.views.KeptLevels.{AreKept};
+ghost use Rattle.rng_model.specs.datatypes.Texts.{is_blank};
 ghost use Rattle.rng_model.specs.documents.EventViews.{event_of};
 ghost use Rattle.rng_model.specs.documents.ElementTrees.{IsElementTree};
 ghost use Rattle.rng_model.specs.documents.PyxTrees as trees;
@@ -15,10 +17,11 @@ ghost use Rattle.rng_model.specs.declared.outcome.Outcome.{Outcome};
 
 use crate::derivatives::Derivatives;
 use crate::ends::some_end;
+use crate::input::Input;
 use crate::level_table::LevelTable;
 use crate::numbering::level_of;
 use crate::position::Position;
-use crate::progress::{Progress, take_event};
+use crate::progress::{Progress, take_input};
 use crate::state::State;
 use rng_model::{Event, OutOfMemory, Outcome};
 use smallvec::SmallVec;
@@ -172,7 +175,38 @@ impl<D: Derivatives + Drop> EventMatcher<D> {
         ensures lost { OnErr result (IsLost self.new.1) }
         ensures again { IsLost self.old.1 → IsErr result }
     {
-        if let Ok(()) = take_event(&mut self.derivatives, self.alloc, &mut self.progress, event) {
+        self.take_input(event.line, Input::Event(event.kind))
+    }
+
+    /// Takes a string of which only this is known: whether it is blank. No alternative that is left tests what a string
+    /// says. Fails only when out of memory.
+    pub fn take_any_text(&mut self, line: u64, blank: bool) -> Result<(), OutOfMemory>
+        requires { tests_strings self.old.1 ≡ false }
+        ensures basis { OnOk result (D.basis self.new.0 ≡ D.basis self.old.0) }
+        ensures known { OnOk result ((text : List ℕ) (events : List trees.Event) → is_blank text ≡ blank
+            → IsKnown (reading_by (D.basis self.old.0)) (D.trees self.old.0) self.old.1 events
+            → IsKnown (reading_by (D.basis self.new.0)) (D.trees self.new.0) self.new.1 (events ++ event_at line (trees.a_string text) ∷ [])) }
+        ensures failed { (at : ℕ) → IsFailed at self.old.1 → OnOk result (IsFailed at self.new.1) }
+        ensures kept { OnOk result (¬ (IsLost self.new.1)) }
+        ensures lost { OnErr result (IsLost self.new.1) }
+    {
+        self.take_input(line, Input::AnyText { blank })
+    }
+
+    /// Takes an event at this line, or a string of which only this is known: whether it is blank.
+    fn take_input(&mut self, line: u64, input: Input<'_>) -> Result<(), OutOfMemory>
+        requires { Serves input (tests_strings self.old.1) }
+        ensures basis { OnOk result (D.basis self.new.0 ≡ D.basis self.old.0) }
+        ensures known { OnOk result ((kind : trees.EventKind) (events : List trees.Event) → IsOf input.entry kind
+            → IsKnown (reading_by (D.basis self.old.0)) (D.trees self.old.0) self.old.1 events
+            → IsKnown (reading_by (D.basis self.new.0)) (D.trees self.new.0) self.new.1 (events ++ event_at line kind ∷ [])) }
+        ensures failed { (at : ℕ) → IsFailed at self.old.1 → OnOk result (IsFailed at self.new.1) }
+        ensures kept { OnOk result (¬ (IsLost self.new.1)) }
+        ensures lost { OnErr result (IsLost self.new.1) }
+        ensures again { IsLost self.old.1 → IsErr result }
+    {
+        let progress = &mut self.progress;
+        if let Ok(()) = take_input(&mut self.derivatives, self.alloc, progress, line, input) {
             return Ok(());
         }
         self.progress = Progress::Lost;

@@ -1,15 +1,15 @@
 // Strings that may still turn out to be only children.
-ghost use Rattle.std.specs.Prelude.{◌≡◌, ◌<◌, Some, IfOk, OnOk, length};
+ghost use Rattle.std.specs.Prelude.{◌≡◌, ◌<◌, Some, IfOk, OnOk, false, length};
 ghost use Rattle.rng_model.specs.datatypes.Texts.{is_blank};
 ghost use Rattle.rng_deriv_events.specs.views.Basis.{HoldsBy, Keeps, reading_by};
-ghost use Rattle.rng_deriv_events.specs.views.LevelTable.{levels_in, numbers_in};
+ghost use Rattle.rng_deriv_events.specs.views.LevelTable.{levels_in, numbers_in, tests_in};
 ghost use Rattle.rng_deriv_events.specs.views.KeptLevels.{AddsLevels, AreKept};
 ghost use Rattle.rng_deriv_events.specs.views.OpenPositions.{IsHeldKept, held_string, open_string};
 ghost use Rattle.rng_deriv_events.specs.views.Strings.{AddsHeld, IsHeld};
 
 use crate::derivatives::Derivatives;
 use crate::level_table::{LevelNumber, LevelTable};
-use crate::numbering::level_after_text;
+use crate::numbering::{level_after_sample, level_after_text};
 use rng_model::OutOfMemory;
 use std::alloc::Global;
 
@@ -56,6 +56,26 @@ pub fn hold<D: Derivatives>(
         blank: is_blank(text),
         after,
     })
+}
+
+/// Holds a string of which only this is known: whether it is blank. No alternative tests what a string says.
+pub fn hold_any<D: Derivatives>(
+    derivatives: &mut D,
+    alloc: Global,
+    table: &mut LevelTable,
+    now: LevelNumber,
+    blank: bool,
+) -> Result<Held, OutOfMemory>
+    requires kept { HoldsBy AreKept (D.basis derivatives.old) (D.trees derivatives.old) table.old }
+    requires now { now.0 < length (levels_in table.old) }
+    requires any { tests_in (levels_in table.old) now.0 ≡ false }
+    ensures keeps { OnOk result (Keeps (AddsLevels table.old) (D.basis derivatives.old) (D.basis derivatives.new) (D.trees derivatives.new) table.new) }
+    ensures inside { IfOk result (λ h. IsHeldKept table.new now (Some h)) }
+    ensures held { IfOk result (λ h. AddsHeld (λ s. is_blank s ≡ blank) (reading_by (D.basis derivatives.old)) (D.trees derivatives.old)
+        (D.trees derivatives.new) (numbers_in (levels_in table.old) now.0) (held_string table.new h)) }
+{
+    let after = level_after_sample(derivatives, alloc, table, now)?;
+    Ok(Held { blank, after })
 }
 
 /// Returns the held string, or the empty one if no string is held.

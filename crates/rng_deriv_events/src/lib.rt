@@ -14,6 +14,7 @@ mod ends;
 mod event_matcher;
 mod held;
 mod innermost;
+mod input;
 mod leaving;
 mod left;
 mod level_renewal;

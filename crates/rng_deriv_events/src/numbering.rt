@@ -201,7 +201,7 @@ fn is_like_sample(level: &Level, text: &str) -> bool
 }
 
 /// Returns the level of what is left of each alternative of a level after its sample string. It is kept.
-fn level_after_sample<D: Derivatives>(
+pub fn level_after_sample<D: Derivatives>(
     derivatives: &mut D,
     alloc: Global,
     table: &mut LevelTable,

@@ -1,5 +1,5 @@
 // What a matcher keeps between two events.
-ghost use Rattle.std.specs.Prelude.{◌≡◌, ℕ, List, None, OnOk, map};
+ghost use Rattle.std.specs.Prelude.{◌≡◌, ℕ, List, None, OnOk, false, map};
 ghost use Rattle.rng_model.specs.documents.PyxTrees as trees;
 ghost use Rattle.rng_model.specs.simple.Tree.{Simple};
 ghost use Rattle.rng_model.specs.documents.EventViews.{attribute_of};
@@ -9,14 +9,16 @@ ghost use Rattle.rng_deriv_laws.specs.plain.LevelEvents.{LevelMatcher, SettlesLe
 ghost use Rattle.rng_model.specs.matching.GrammarMatching.{Reading};
 ghost use Rattle.rng_deriv_events.specs.views.Basis.{HoldsBy, Keeps, reading_by};
 ghost use Rattle.rng_deriv_events.specs.views.KeptLevels.{Grows};
+ghost use Rattle.rng_deriv_events.specs.views.Inputs.{IsTextOf, tests_at};
 ghost use Rattle.rng_deriv_events.specs.views.LevelTable.{levels_in};
+ghost use Rattle.rng_deriv_events.specs.views.Numbers.{Longer};
 ghost use Rattle.rng_deriv_events.specs.views.Positions.{AddsStep, IsPositionOf};
 ghost use Rattle.rng_deriv_events.specs.views.OpenPositions.{IsPositionKept, IsStateKept, open_position, open_state};
 ghost use Rattle.rng_deriv_events.specs.views.States.{state_of};
 
 use crate::closing::{after_elements, after_lone_string};
 use crate::derivatives::Derivatives;
-use crate::held::{Held, hold};
+use crate::held::{Held, hold, hold_any};
 use crate::state::{State, enter};
 use rng_model::{Attr, Name, OutOfMemory};
 use std::alloc::Global;
@@ -85,6 +87,27 @@ pub fn after_text<D: Derivatives>(
 {
     let now = position.state.now;
     let held = hold(derivatives, alloc, &mut position.state.table, now, text)?;
+    position.held = Some(held);
+    Ok(())
+}
+
+/// Takes a string of which only this is known: whether it is blank. No alternative tests what a string says.
+pub fn after_any_text<D: Derivatives>(
+    derivatives: &mut D,
+    alloc: Global,
+    position: &mut Position,
+    blank: bool,
+) -> Result<(), OutOfMemory>
+    requires kept { HoldsBy IsPositionKept (D.basis derivatives.old) (D.trees derivatives.old) position.old }
+    requires any { tests_at position.old ≡ false }
+    ensures keeps { OnOk result (Keeps IsPositionKept (D.basis derivatives.old) (D.basis derivatives.new) (D.trees derivatives.new) position.new) }
+    ensures step { OnOk result ((kind : trees.EventKind) → IsTextOf blank kind → AddsStep (reading_by (D.basis derivatives.old)) kind
+        (D.trees derivatives.old) (D.trees derivatives.new) (open_position position.old) (open_position position.new)) }
+    ensures longer { OnOk result (Longer (D.trees derivatives.old) (D.trees derivatives.new)) }
+    ensures levels { OnOk result (Grows (levels_in position.old.state.table) (levels_in position.new.state.table)) }
+{
+    let now = position.state.now;
+    let held = hold_any(derivatives, alloc, &mut position.state.table, now, blank)?;
     position.held = Some(held);
     Ok(())
 }

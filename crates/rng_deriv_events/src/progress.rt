@@ -1,18 +1,21 @@
 // What is known of a document, event by event.
-ghost use Rattle.std.specs.Prelude.{ℕ, IfOk, IsErr, OnOk};
-ghost use Rattle.rng_model.specs.documents.EventViews.{event_of, event_kind_of};
+ghost use Rattle.std.specs.Prelude.{◌≡◌, ℕ, IfOk, IsErr, OnOk};
+ghost use Rattle.rng_model.specs.documents.EventViews.{event_kind_of};
 ghost use Rattle.rng_model.specs.documents.PyxTrees as trees;
 ghost use Rattle.rng_deriv_events.specs.views.Basis.{HoldsBy, Keeps, reading_by};
+ghost use Rattle.rng_deriv_events.specs.views.Inputs.{IsOf, Serves, event_at, tests_at, tests_strings};
 ghost use Rattle.rng_deriv_events.specs.views.KeptLevels.{Grows};
 ghost use Rattle.rng_deriv_events.specs.views.LevelTable.{levels_in};
+ghost use Rattle.rng_deriv_events.specs.views.Numbers.{Longer};
 ghost use Rattle.rng_deriv_events.specs.views.OpenPositions.{IsPositionKept, open_position};
 ghost use Rattle.rng_deriv_events.specs.views.Positions.{AddsProgress, AddsStep, HasCome, IsFailed, IsKnown, IsLost, IsProgressInside, progress_at};
 
 use crate::derivatives::Derivatives;
+use crate::input::Input;
 use crate::left::{Left, Mark};
 use crate::level_renewal::renew;
-use crate::position::{Position, after_end, after_start, after_text};
-use rng_model::{Event, EventKind, OutOfMemory};
+use crate::position::{Position, after_any_text, after_end, after_start, after_text};
+use rng_model::{EventKind, OutOfMemory};
 use std::alloc::Global;
 
 /// What is known of a document.
@@ -47,24 +50,48 @@ fn step<D: Derivatives>(
     }
 }
 
-/// Takes one more event of a document that may be valid. Returns `None` if it may still be valid, otherwise what was left
-/// before the event.
+/// Takes an event, or a string of which only this is known: whether it is blank.
+fn step_by<D: Derivatives>(
+    derivatives: &mut D,
+    alloc: Global,
+    position: &mut Position,
+    input: Input<'_>,
+) -> Result<(), OutOfMemory>
+    requires kept { HoldsBy IsPositionKept (D.basis derivatives.old) (D.trees derivatives.old) position.old }
+    requires serves { Serves input (tests_at position.old) }
+    ensures keeps { OnOk result (Keeps IsPositionKept (D.basis derivatives.old) (D.basis derivatives.new) (D.trees derivatives.new) position.new) }
+    ensures step { OnOk result ((kind : trees.EventKind) → IsOf input.entry kind → AddsStep (reading_by (D.basis derivatives.old)) kind
+        (D.trees derivatives.old) (D.trees derivatives.new) (open_position position.old) (open_position position.new)) }
+    ensures longer { OnOk result (Longer (D.trees derivatives.old) (D.trees derivatives.new)) }
+    ensures levels { OnOk result (Grows (levels_in position.old.state.table) (levels_in position.new.state.table)) }
+{
+    match input {
+        Input::Event(kind) => step(derivatives, alloc, position, kind),
+        Input::AnyText { blank } => after_any_text(derivatives, alloc, position, blank),
+    }
+}
+
+/// Takes one more event of a document that may be valid, at this line. Returns `None` if it may still be valid, otherwise
+/// what was left before the event.
 fn go_on<D: Derivatives>(
     derivatives: &mut D,
     alloc: Global,
     position: &mut Box<Position>,
-    event: Event<'_>,
+    line: u64,
+    input: Input<'_>,
 ) -> Result<Option<Left>, OutOfMemory>
-    requires { HoldsBy IsPositionKept (D.basis derivatives.old) (D.trees derivatives.old) position.old.value }
+    requires kept { HoldsBy IsPositionKept (D.basis derivatives.old) (D.trees derivatives.old) position.old.value }
+    requires serves { Serves input (tests_at position.old.value) }
     ensures keeps { IfOk result (λ failed. Keeps IsProgressInside (D.basis derivatives.old) (D.basis derivatives.new) (D.trees derivatives.new)
-        (progress_at failed position.new event.entry.line)) }
-    ensures progress { IfOk result (λ failed. AddsProgress (reading_by (D.basis derivatives.old)) (event_of event.entry)
+        (progress_at failed position.new line)) }
+    ensures progress { IfOk result (λ failed. (kind : trees.EventKind) → IsOf input.entry kind
+        → AddsProgress (reading_by (D.basis derivatives.old)) (event_at line kind)
         (λ events. (line : ℕ) × HasCome (reading_by (D.basis derivatives.old)) (D.trees derivatives.old) (open_position position.old.value) line events)
-        (D.trees derivatives.new) (progress_at failed position.new event.entry.line)) }
+        (D.trees derivatives.new) (progress_at failed position.new line)) }
 {
     let position = &mut **position;
     let mark = Mark::of(position);
-    step(derivatives, alloc, position, event.kind)?;
+    step_by(derivatives, alloc, position, input)?;
     if position.state.table.level(position.state.now).dead {
         return Ok(Some(mark.left(alloc, &position.state.table)?));
     }
@@ -72,34 +99,54 @@ fn go_on<D: Derivatives>(
     Ok(None)
 }
 
-/// Takes one more event. After a call runs out of memory, there is no promise about what is known.
-pub fn take_event<D: Derivatives>(
+/// Takes one more event at this line, or a string of which only this is known: whether it is blank. After a call runs out
+/// of memory, there is no promise about what is known.
+pub fn take_input<D: Derivatives>(
     derivatives: &mut D,
     alloc: Global,
     progress: &mut Progress,
-    event: Event<'_>,
+    line: u64,
+    input: Input<'_>,
 ) -> Result<(), OutOfMemory>
-    requires { HoldsBy IsProgressInside (D.basis derivatives.old) (D.trees derivatives.old) progress.old }
+    requires inside { HoldsBy IsProgressInside (D.basis derivatives.old) (D.trees derivatives.old) progress.old }
+    requires serves { Serves input (tests_strings progress.old) }
     ensures keeps { OnOk result (Keeps IsProgressInside (D.basis derivatives.old) (D.basis derivatives.new) (D.trees derivatives.new) progress.new) }
-    ensures progress { OnOk result (AddsProgress (reading_by (D.basis derivatives.old)) (event_of event.entry)
+    ensures progress { OnOk result ((kind : trees.EventKind) → IsOf input.entry kind → AddsProgress (reading_by (D.basis derivatives.old)) (event_at line kind)
         (IsKnown (reading_by (D.basis derivatives.old)) (D.trees derivatives.old) progress.old) (D.trees derivatives.new) progress.new) }
-    ensures failed { (line : ℕ) → IsFailed line progress.old → OnOk result (IsFailed line progress.new) }
+    ensures failed { (at : ℕ) → IsFailed at progress.old → OnOk result (IsFailed at progress.new) }
     ensures kept { OnOk result (¬ (IsLost progress.new)) }
     ensures again { IsLost progress.old → IsErr result }
 {
     match progress {
-        Progress::Going { position, line } => {
-            *line = event.line;
-            let Some(left) = go_on(derivatives, alloc, position, event)? else {
+        Progress::Going {
+            position,
+            line: last,
+        } => {
+            *last = line;
+            let Some(left) = go_on(derivatives, alloc, position, line, input)? else {
                 return Ok(());
             };
-            *progress = Progress::Failed {
-                line: event.line,
-                left,
-            };
+            *progress = Progress::Failed { line, left };
             Ok(())
         }
         Progress::Failed { .. } => Ok(()),
         Progress::Lost => Err(OutOfMemory),
+    }
+}
+
+impl Progress {
+    /// Returns whether an alternative that is left contains a data, a value or a list, so that it tests what a string says.
+    /// Then a string that is not blank leaves the same as each other one. False once nothing is left. True after a call
+    /// that ran out of memory. Allocates nothing.
+    pub fn tests_strings(&self) -> bool
+        ensures { result ≡ tests_strings self.now }
+    {
+        match self {
+            Progress::Going { position, .. } => {
+                position.state.table.tests_strings_at(position.state.now)
+            }
+            Progress::Failed { .. } => false,
+            Progress::Lost => true,
+        }
     }
 }

@@ -113,7 +113,7 @@ def table(seen):
         if it["part"] == "edits":
             edits[it["crate"]][it["folder"]] += it["took"]
     print("\n| Crate | Proofs | Tests | Check before the edits | Edits | An edit, seconds | Sum |\n|---|---|---|---|---|---|---|")
-    minutes = lambda seconds: f"{seconds / 60:.1f}"
+    minutes = lambda seconds: f"{seconds / 60:.1f}" if seconds else ""
     total = [0.0] * 4
     for crate in crates():
         # the check of the first edit is from nothing; if there are two edits or more, the last check is of the crate itself

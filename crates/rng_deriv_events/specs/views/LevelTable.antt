@@ -1,5 +1,5 @@
 -- What contracts see of a table of levels.
-use Rattle.std.specs.Prelude.{◌≡◌, ℕ, List, [], Option, Some, None, slice_get, Contains, codes, if◌then◌else◌}
+use Rattle.std.specs.Prelude.{◌≡◌, ℕ, List, [], Bool, true, Option, Some, None, slice_get, Contains, codes, if◌then◌else◌}
 use Rattle.smallvec.specs.SmallVec.{SmallVec}
 use Rattle.rng_deriv_table.specs.declared.pattern.PatternNumber.{PatternNumber}
 use Rattle.rng_deriv_events.specs.declared.level_table.level.Level.{Level}
@@ -57,6 +57,14 @@ numbers_or_none (Some l) = l.numbers.items
 -- the alternatives of the level with this number
 abbrev pub numbers_in : List Level → ℕ → List PatternNumber
 numbers_in levels n = numbers_or_none (slice_get levels n)
+
+-- an alternative of the level with this number tests what a string says
+abbrev pub tests_or_true : Option Level → Bool
+tests_or_true None = true
+tests_or_true (Some l) = l.tests_strings
+
+abbrev pub tests_in : List Level → ℕ → Bool
+tests_in levels n = tests_or_true (slice_get levels n)
 
 -- ---- what is known of levels and steps
 

@@ -1,5 +1,5 @@
 -- What is left of the innermost open element.
-use Rattle.std.specs.Prelude.{ℕ, ◌==◌, ◌&&◌, List, length, Bool, not, Option, Some, None, is_some, if◌then◌else◌}
+use Rattle.std.specs.Prelude.{◌==◌, ◌&&◌, List, length, Bool, not, Option, Some, None, is_some, if◌then◌else◌}
 use Rattle.rng_deriv_table.specs.declared.pattern.PatternNumber.{PatternNumber}
 use Rattle.rng_deriv_events.specs.views.LevelTable.{levels_in, numbers_in}
 use Rattle.rng_deriv_events.specs.declared.held.Held.{Held}

@@ -3,7 +3,7 @@ ghost use Rattle.std.specs.Prelude.{◌≡◌, ◌<◌, ◌⊎◌, ◌++◌, ◌
 ghost use Rattle.std.specs.Option.{option_copied};
 ghost use Rattle.rng_deriv_events.specs.declared.level_table.level.LevelNumber.{LevelNumber};
 ghost use Rattle.rng_deriv_events.specs.declared.level_table.step.End.{End};
-ghost use Rattle.rng_deriv_events.specs.views.LevelTable.{IsEndAt, IsKnownAt, IsStepOf, KeepsKnown, KeepsLists};
+ghost use Rattle.rng_deriv_events.specs.views.LevelTable.{IsEndAt, IsKnownAt, IsStepOf, KeepsKnown, KeepsLists, tests_in};
 ghost use Rattle.rng_deriv_events.specs.views.LevelTable.{sampled_in, closed_in, ends_in, levels_in, numbers_in, steps_in};
 
 use crate::level_table::level::{Level, LevelNumber};
@@ -174,6 +174,17 @@ impl LevelTable {
         match found_at(self.levels.as_slice(), number.0) {
             Some(level) => level.numbers.as_slice(),
             None => &[],
+        }
+    }
+
+    /// Returns whether an alternative of the level with this number tests what a string says. True if there is no such
+    /// level.
+    pub fn tests_strings_at(&self, number: LevelNumber) -> bool
+        ensures { result ≡ tests_in (levels_in self.now) number.0 }
+    {
+        match found_at(self.levels.as_slice(), number.0) {
+            Some(level) => level.tests_strings,
+            None => true,
         }
     }
 

@@ -1,4 +1,4 @@
-use Rattle.std.proofs.Common.{refl, Some}
+use Rattle.std.proofs.Common.{◌≡◌, refl, Some}
 use Rattle.rng_deriv_events.specs.views.Basis.{reading_by}
 use Rattle.rng_deriv_events.specs.views.LevelTable.{levels_in}
 use Rattle.rng_deriv_events.specs.views.OpenPositions.{held_string, open_position}
@@ -45,7 +45,8 @@ returns-clause-step g c =
     let same = state_grows (reading_by (basis a)) (reading_by (basis d)) (basis a).keys (basis d).keys (trees a) (trees d) told.held.longer s n c.requires.state
     told.keeps.right
     refl refl refl in
-    string_step (reading_by (basis a)) c.args.text.now (trees a) (trees d) (open_position p) (held_string n.table c.in_ok-held.held) (open_position r)
+    string_step (reading_by (basis a)) (λ s. s ≡ c.args.text.now) c.args.text.now (trees a) (trees d) (open_position p)
+    (held_string n.table c.in_ok-held.held) (open_position r) refl
     (position_inside (reading_by (basis a)) (basis a).keys (trees a) p c.requires) told.held same refl refl
 
 pub returns-clause-levels : goal.returns-clause-levels

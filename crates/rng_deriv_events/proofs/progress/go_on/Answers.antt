@@ -1,6 +1,6 @@
 use Rattle.std.proofs.Common.{true, false, ◌++◌, ◌∷◌, [], ◌∙◌, subst, sym}
-use Rattle.rng_model.specs.documents.EventViews.{event_of}
 use Rattle.rng_deriv_events.specs.views.Basis.{reading_by}
+use Rattle.rng_deriv_events.specs.views.Inputs.{event_at}
 use Rattle.rng_deriv_events.specs.views.LevelTable.{levels_in}
 use Rattle.rng_deriv_events.specs.views.LevelsLeft.{left_of}
 use Rattle.rng_deriv_events.specs.views.OpenPositions.{IsPositionKept, open_position}
@@ -13,20 +13,20 @@ use Rattle.rng_deriv_events.proofs.MarkedLevels.{left_inside, left_leads}
 use Rattle.rng_deriv_events.proofs.progress.go_on.Goals as goal
 
 pub level-requires : goal.level-requires
-level-requires g c = c.in_ok-step.ensures.keeps.right.state.now
+level-requires g c = c.in_ok-step_by.ensures.keeps.right.state.now
 
 pub returns-then-level-clause-keeps : goal.returns-then-level-clause-keeps
 returns-then-level-clause-keeps g c =
     let trees = g.D.Derivatives.trees in
     let basis = g.D.Derivatives.basis c.args.derivatives.now in
-    let told = c.in_ok-step.ensures in
+    let told = c.in_ok-step_by.ensures in
     let old = trees c.args.derivatives.now in
     let p = c.deref_mut-position.result.now in
-    let kept = subst (IsPositionKept (reading_by basis) basis.keys old) (sym c.deref_mut-position.ensures.value) c.requires in
+    let kept = subst (IsPositionKept (reading_by basis) basis.keys old) (sym c.deref_mut-position.ensures.value) c.requires.kept in
     record {
       basis = told.keeps.basis;
-      right = left_inside (reading_by basis) basis.keys old (trees c.step.new.derivatives) p (levels_in c.step.new.position.state.table) c.of-mark.result
-          c.in_ok-left.field-0 kept told.step.longer told.levels c.of-mark.ensures.now c.of-mark.ensures.left c.in_ok-left.ensures;
+      right = left_inside (reading_by basis) basis.keys old (trees c.step_by.new.derivatives) p (levels_in c.step_by.new.position.state.table) c.of-mark.result
+          c.in_ok-left.field-0 kept told.longer told.levels c.of-mark.ensures.now c.of-mark.ensures.left c.in_ok-left.ensures;
     }
 
 pub returns-then-level-clause-progress : goal.returns-then-level-clause-progress
@@ -35,39 +35,40 @@ returns-then-level-clause-progress g c =
     let basis = g.D.Derivatives.basis c.args.derivatives.now in
     let reading = reading_by basis in
     let old = trees c.args.derivatives.now in
-    let new = trees c.step.new.derivatives in
-    let told = c.in_ok-step.ensures in
-    let n = c.step.new.position in
+    let new = trees c.step_by.new.derivatives in
+    let told = c.in_ok-step_by.ensures in
+    let n = c.step_by.new.position in
     let p = c.deref_mut-position.result.now in
     let same = sym c.deref_mut-position.ensures.value in
     let all = dead_is new (levels_in n.state.table) n.state.now.0 c.level.result.now true told.keeps.right.state.kept.levels c.level.ensures
     c.if-level.true in
-    let kept = subst (IsPositionKept reading basis.keys old) same c.requires in
-    λ es come.
+    let kept = subst (IsPositionKept reading basis.keys old) same c.requires.kept in
+    λ kind of es come.
     let here = subst (λ (p : Position). HasCome reading old (open_position p) come.0 es) same come.1 in
-    fails reading old new (open_position p) (open_position n) (event_of c.args.event) told.step come.0 es here (left_of c.in_ok-left.field-0)
-    (left_leads reading basis.keys old new p (levels_in n.state.table) c.of-mark.result c.in_ok-left.field-0 kept told.step.longer told.levels
+    fails reading old new (open_position p) (open_position n) (event_at c.args.line kind) (told.step kind of) come.0 es here (left_of c.in_ok-left.field-0)
+    (left_leads reading basis.keys old new p (levels_in n.state.table) c.of-mark.result c.in_ok-left.field-0 kept told.longer told.levels
     c.of-mark.ensures.now c.of-mark.ensures.left c.in_ok-left.ensures come.0 es here) all
 
 pub renew-requires : goal.renew-requires
-renew-requires g c = c.in_ok-step.ensures.keeps.right
+renew-requires g c = c.in_ok-step_by.ensures.keeps.right
 
 pub returns-clause-keeps : goal.returns-clause-keeps
 returns-clause-keeps g c =
-    record { basis = c.in_ok-renew.ensures.keeps.basis ∙ c.in_ok-step.ensures.keeps.basis; right = c.in_ok-renew.ensures.keeps.right }
+    record { basis = c.in_ok-renew.ensures.keeps.basis ∙ c.in_ok-step_by.ensures.keeps.basis; right = c.in_ok-renew.ensures.keeps.right }
 
 pub returns-clause-progress : goal.returns-clause-progress
 returns-clause-progress g c =
     let trees = g.D.Derivatives.trees in
     let reading = reading_by (g.D.Derivatives.basis c.args.derivatives.now) in
-    let mid = trees c.step.new.derivatives in
+    let mid = trees c.step_by.new.derivatives in
     let new = trees c.renew.new.derivatives in
-    let event = event_of c.args.event in
-    let p = c.step.new.position in
-    let some = dead_is mid (levels_in p.state.table) p.state.now.0 c.level.result.now false c.in_ok-step.ensures.keeps.right.state.kept.levels c.level.ensures
+    let p = c.step_by.new.position in
+    let some = dead_is mid (levels_in p.state.table) p.state.now.0 c.level.result.now false c.in_ok-step_by.ensures.keeps.right.state.kept.levels c.level.ensures
     c.if-level.false in
     let old = trees c.args.derivatives.now in
-    λ es come. come_renewed reading mid new (open_position p) (open_position c.renew.new.position) event.line (es ++ event ∷ [])
+    λ kind of es come.
+    let event = event_at c.args.line kind in
+    come_renewed reading mid new (open_position p) (open_position c.renew.new.position) event.line (es ++ event ∷ [])
     c.in_ok-renew.ensures.renewed
-    (comes_on reading old mid (open_position c.deref_mut-position.result.now) (open_position p) event c.in_ok-step.ensures.step come.0 es
+    (comes_on reading old mid (open_position c.deref_mut-position.result.now) (open_position p) event (c.in_ok-step_by.ensures.step kind of) come.0 es
     (subst (λ (p : Position). HasCome reading old (open_position p) come.0 es) (sym c.deref_mut-position.ensures.value) come.1) some)

@@ -1,15 +1,14 @@
 use Rattle.std.proofs.Common.{◌≡◌, [], ◌∷◌, ◌++◌, IfErr, IfSome, List, None, OnOk, Result, Some, ap, rules, subst, sym}
-use Rattle.rng_model.specs.documents.EventViews.{Hands}
 use Rattle.rng_model.specs.documents.PyxTrees.{Event, an_end}
-use Rattle.element_events.specs.views.Kept.{Extends, UnlessOutOfMemory}
+use Rattle.element_events.specs.views.Kept.{UnlessOutOfMemory}
 use Rattle.element_events.specs.declared.fault.EventFault.{EventFault}
 use Rattle.element_events.specs.views.Told.{call}
-use Rattle.rng_deriv.specs.views.Matchers.{HasGoneOn}
 use Rattle.rncv_validator.specs.views.FedDocuments.{HasNotRunOut, matching_of}
 use Rattle.rncv_validator.proofs.FedDocuments.{state_there}
 use Rattle.rncv_events.specs.Answers.{IsResult}
+use Rattle.rncv_events.specs.views.Leading.{LeadsOn}
 use Rattle.rncv_events.specs.views.Told.{HasTaken, IsFaultOfCalls, Judging, Takes, failed_since}
-use Rattle.rncv_events.proofs.SettledCalls.{fault_of_calls, fault_settled, fault_told, kept_settled, none_told, result_is, resumed_there, since_settled}
+use Rattle.rncv_events.proofs.SettledCalls.{fault_of_calls, fault_settled, fault_told, kept_settled, may_pass, none_told, passed_settled, result_is, resumed_there, since_settled}
 use Rattle.rncv_events.proofs.SettledCalls.{state_settled, stuck_result, stuck_taken, taken_settled}
 use Rattle.rncv_events.proofs.document.EventDocument.end.Goals as goal
 
@@ -33,20 +32,21 @@ invariant_of-self c =
     let g = d.grammar.value in
     let s = c.in-Some-take.state in
     let old = c.resume-matcher.result in
-    let new = c.end-answer.new.events in
-    let k = c.end-answer.new.self in
-    let r = c.end-answer.result in
+    let new = c.tell_end-answer.new.matcher in
+    let k = c.tell_end-answer.new.calls in
+    let r = c.tell_end-answer.result in
     let place = c.settle.new.place in
     let fault = c.settle.new.fault in
     let settled = c.settle.ensures.settled in
-    let longer = c.end-answer.ensures.stands in
+    let longer = c.tell_end-answer.ensures.leads in
     let e = (call c.args.place an_end) in (
       c.self.invariant.0,
       state_settled g c.deref.result.now s old new c.deref.ensures c.resume-matcher.ensures d.calls k e d.fault place fault r longer settled,
       fault_settled g c.deref.result.now s old new c.deref.ensures c.resume-matcher.ensures d.calls k e d.fault place fault r longer settled (search rules)
-          c.end-answer.ensures.working c.end-answer.ensures.fault,
+          c.tell_end-answer.ensures.working c.tell_end-answer.ensures.fault,
       kept_settled g c.deref.result.now s old new c.deref.ensures c.resume-matcher.ensures d.calls k e d.fault place fault r longer settled
           (state_there d.state s (HasNotRunOut g) (search rules) c.self.invariant.3),
+      passed_settled r new d.fault place fault k.passed settled c.tell_end-answer.ensures.passed,
     )
 
 pub returns-clause-taken : goal.returns-clause-taken
@@ -55,9 +55,9 @@ returns-clause-taken c =
     let g = d.grammar.value in
     let s = c.in-Some-take.state in
     let old = c.resume-matcher.result in
-    let new = c.end-answer.new.events in
-    let k = c.end-answer.new.self in
-    let r = c.end-answer.result in
+    let new = c.tell_end-answer.new.matcher in
+    let k = c.tell_end-answer.new.calls in
+    let r = c.tell_end-answer.result in
     let place = c.settle.new.place in
     let fault = c.settle.new.fault in
     let e = (call c.args.place an_end) in
@@ -65,7 +65,7 @@ returns-clause-taken c =
     subst (λ (r : Result Unit EventFault). UnlessOutOfMemory r (Takes c.args.self.now (record { grammar = g; calls = k; matching = matching_of g place; fault = fault }) e))
     (sym c.settle.ensures.same)
     (taken_settled g c.deref.result.now s old new c.deref.ensures c.resume-matcher.ensures d.calls k e d.fault place fault c.args.self.now there
-    (ap (λ (j : Judging). j.calls) c.self.view_is) r c.end-answer.ensures.stands c.settle.ensures.settled)
+    (ap (λ (j : Judging). j.calls) c.self.view_is) r c.tell_end-answer.ensures.leads c.settle.ensures.settled)
 
 pub returns-clause-since : goal.returns-clause-since
 returns-clause-since c =
@@ -73,9 +73,9 @@ returns-clause-since c =
     let g = d.grammar.value in
     let s = c.in-Some-take.state in
     let old = c.resume-matcher.result in
-    let new = c.end-answer.new.events in
-    let k = c.end-answer.new.self in
-    let r = c.end-answer.result in
+    let new = c.tell_end-answer.new.matcher in
+    let k = c.tell_end-answer.new.calls in
+    let r = c.tell_end-answer.result in
     let place = c.settle.new.place in
     let fault = c.settle.new.fault in
     let e = (call c.args.place an_end) in
@@ -83,22 +83,29 @@ returns-clause-since c =
     subst (λ (r : Result Unit EventFault). IfSome (failed_since c.args.self.now) (λ at. UnlessOutOfMemory r
     (failed_since (record { grammar = g; calls = k; matching = matching_of g place; fault = fault }) ≡ Some at))) (sym c.settle.ensures.same)
     (since_settled g c.deref.result.now s old new c.deref.ensures c.resume-matcher.ensures d.calls k e d.fault place fault c.args.self.now there
-    (ap (λ (j : Judging). j.calls) c.self.view_is) r c.end-answer.ensures.stands c.settle.ensures.settled)
+    (ap (λ (j : Judging). j.calls) c.self.view_is) r c.tell_end-answer.ensures.leads c.settle.ensures.settled)
 
 pub returns-clause-answer : goal.returns-clause-answer
 returns-clause-answer c =
-    let r = c.end-answer.result in
-    let k = c.end-answer.new.self in
-    let handed = Hands HasGoneOn c.resume-matcher.result c.end-answer.new.events in
+    let r = c.tell_end-answer.result in
+    let k = c.tell_end-answer.new.calls in
+    let old = c.resume-matcher.result in
+    let new = c.tell_end-answer.new.matcher in
     let e = (call c.args.place an_end) in
-    let longer = subst (λ (j : Judging). UnlessOutOfMemory r (Extends handed j.calls k e)) c.self.view_is c.end-answer.ensures.stands in
+    let longer = subst (λ (j : Judging). UnlessOutOfMemory r (LeadsOn old new j.calls k e)) c.self.view_is c.tell_end-answer.ensures.leads in
     subst (λ (r : Result Unit EventFault). (calls : List Event) → HasTaken c.args.self.now calls → IsResult r (calls ++ e ∷ [])) (sym c.settle.ensures.same)
-    (result_is c.args.self.now k handed e r longer c.end-answer.ensures.begins c.end-answer.ensures.fault)
+    (result_is c.args.self.now k e old new r longer c.tell_end-answer.ensures.begins c.tell_end-answer.ensures.fault)
 
 pub returns-clause-fault : goal.returns-clause-fault
 returns-clause-fault c = subst (λ (r : Result Unit EventFault). IfErr r (λ f. c.settle.new.fault ≡ Some f)) (sym c.settle.ensures.same)
-    (fault_told c.end-answer.result c.end-answer.new.events c.self.inside.fault c.settle.new.place c.settle.new.fault c.settle.ensures.settled)
+    (fault_told c.tell_end-answer.result c.tell_end-answer.new.matcher c.self.inside.fault c.settle.new.place c.settle.new.fault c.settle.ensures.settled)
 
 pub returns-clause-working : goal.returns-clause-working
 returns-clause-working c = subst (λ (r : Result Unit EventFault). OnOk r (c.settle.new.fault ≡ None)) (sym c.settle.ensures.same)
-    (none_told c.end-answer.result c.end-answer.new.events c.self.inside.fault c.settle.new.place c.settle.new.fault c.settle.ensures.settled (search rules))
+    (none_told c.tell_end-answer.result c.tell_end-answer.new.matcher c.self.inside.fault c.settle.new.place c.settle.new.fault c.settle.ensures.settled (search rules))
+
+pub tell_end-answer-requires : goal.tell_end-answer-requires
+tell_end-answer-requires c =
+    let d = c.self.inside in
+    may_pass d.calls.passed d.state d.fault c.deref.result.now c.in-Some-take.state c.resume-matcher.result (search rules) (search rules) c.resume-matcher.ensures
+    c.self.invariant.4

@@ -1,4 +1,4 @@
-use Rattle.std.proofs.Common.{ℕ, List, IfOk, IsErr, OnErr, subst}
+use Rattle.std.proofs.Common.{IfOk, IsErr, OnErr, subst}
 use Rattle.rng_model.specs.documents.ElementTrees.{IsElementTree}
 use Rattle.rng_model.specs.documents.PyxTrees.{Placed, events_of}
 use Rattle.rng_deriv_laws.specs.plain.Outcomes.{IsOutcome}

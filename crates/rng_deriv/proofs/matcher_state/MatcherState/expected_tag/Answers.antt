@@ -1,4 +1,4 @@
-use Rattle.std.proofs.Common.{◌≡◌, ◌∙◌, ◌<◌, All, Bool, List, Some, ap, false, length, map, option_map, subst, sym, true}
+use Rattle.std.proofs.Common.{◌≡◌, ◌∙◌, ◌<◌, All, Bool, Some, ap, false, length, map, option_map, subst, sym, true}
 use Rattle.rng_model.specs.matching.GrammarMatching.{reading_of}
 use Rattle.rng_model.specs.names.NameViews.{name_of}
 use Rattle.rng_deriv_table.specs.views.Trees.{tree_of}
