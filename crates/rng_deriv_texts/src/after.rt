@@ -142,8 +142,8 @@ pub fn after_tag(
 }
 
 /// Returns what is left of a pattern after an attribute. If that is two alternatives, and they have a side in common,
-/// they are joined.
-fn after_attribute(
+/// they are joined. Fails only when out of memory.
+pub fn after_attribute(
     context: &Context,
     table: &mut PatternTable,
     known: &mut Known,

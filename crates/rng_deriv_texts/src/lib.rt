@@ -15,5 +15,5 @@ mod settled;
 mod texts;
 mod value_index;
 
-pub use after::{after_tag, after_text};
+pub use after::{after_attribute, after_tag, after_text};
 pub use texts::is_excepted;

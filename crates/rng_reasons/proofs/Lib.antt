@@ -1,0 +1,3 @@
+mod Allowed
+mod NamesInPatterns
+mod LeftPatterns

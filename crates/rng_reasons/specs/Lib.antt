@@ -1,0 +1,3 @@
+pub mod AllowedPatterns
+pub mod NamedAttributes
+pub mod TagFaults
