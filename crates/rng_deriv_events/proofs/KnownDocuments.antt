@@ -24,6 +24,7 @@ use Rattle.rng_deriv_events.specs.views.Strings.{IsHeld}
 use Rattle.rng_model.specs.matching.Outcomes.{KnowsName, IsValidByReading}
 use Rattle.rng_deriv_laws.specs.plain.Outcomes.{FailsAt}
 use Rattle.rng_deriv_events.specs.views.LevelsLeft.{LevelLeft}
+use Rattle.rng_deriv_events.specs.views.NextEnds.{LeadToEnd}
 use Rattle.rng_deriv_events.specs.views.Positions.{Leads, AddsStep, FailsWith, HasCome, IsKnown, IsLost, LeadTo, failed_line}
 use Rattle.rng_deriv_events.specs.views.OpenPositions.{OpenPosition}
 use Rattle.rng_deriv_events.specs.declared.progress.Progress.{Progress}
@@ -118,9 +119,9 @@ module _ (g : Reading) where
       last = inr (es, e.kind, refl);
     }
 
-    pub fails : (l : LevelLeft) → LeadTo g new l es → list_all (λ n. is_not_allowed (tree_of new n)) q.state.now ≡ true
-        → FailsWith g new l (es ++ e ∷ []) e.line
-    fails l left all = record {
+    pub fails : (later : List (Simple ℕ)) (l : LevelLeft) (may_end : Bool) → LeadTo g later l es → LeadToEnd g may_end es
+        → list_all (λ n. is_not_allowed (tree_of new n)) q.state.now ≡ true → FailsWith g later l may_end (es ++ e ∷ []) e.line
+    fails later l may_end left ends all = record {
       fails = record {
         before = es;
         kind = e.kind;
@@ -131,12 +132,13 @@ module _ (g : Reading) where
         known = come.known;
       };
       left = left;
+      ends = ends;
     }
 
   -- this stays so after one more event
-  pub fails_on : (trees : List (Simple ℕ)) (l : LevelLeft) (es : List Event) (line : ℕ) (e : Event) → FailsWith g trees l es line
-      → FailsWith g trees l (es ++ e ∷ []) line
-  fails_on trees l es line e w =
+  pub fails_on : (trees : List (Simple ℕ)) (l : LevelLeft) (may_end : Bool) (es : List Event) (line : ℕ) (e : Event) → FailsWith g trees l may_end es line
+      → FailsWith g trees l may_end (es ++ e ∷ []) line
+  fails_on trees l may_end es line e w =
       let f = w.fails in
       record {
         fails = record {
@@ -148,6 +150,7 @@ module _ (g : Reading) where
           known = f.known;
         };
         left = w.left;
+        ends = w.ends;
       }
 
 -- ---- what is known, by the line after which no continuation is valid

@@ -2,7 +2,7 @@
 use Rattle.std.proofs.Common.{◌≡◌, ◌↔◌, ◌∙◌, ◌&&◌, ◌||◌, ℕ, ◌+◌, ◌<◌, zero, suc, List, [], ◌∷◌, ◌++◌, length, map, slice_index_or, take, refl, sym, ap, ap₂}
 use Rattle.std.proofs.Common.{subst, arith, Bool, true, false, Some, slice_get}
 use Rattle.std.specs.List.{AllZip, list_all, list_any}
-use Rattle.std.proofs.lemmas.List.{take_more}
+use Rattle.std.proofs.lemmas.List.{length-map, take_more}
 use Rattle.std.proofs.lemmas.Option.{none-some, same_Some}
 use Rattle.rng_model.specs.simple.Tree.{Simple}
 use Rattle.rng_model.specs.datatypes.Texts.{is_blank}
@@ -36,6 +36,9 @@ which_by g trees (n ∷ now) (a ∷ after) blank t e h = (
       (may_end_with g t (tree_of trees n) (tree_of trees a) h.0),
   which_by g trees now after blank t e h.1,
 )
+
+pub tests_long : (trees : List (Simple ℕ)) (ps : List PatternNumber) → length (nullable_in trees ps) ≡ length ps
+tests_long trees ps = length-map (map (tree_of trees) ps) is_nullable ∙ length-map ps (tree_of trees)
 
 -- a test of each pattern is a test of each tree
 pub all_mapped : (test : Simple ℕ → Bool) (f : PatternNumber → Simple ℕ) (ns : List PatternNumber) → list_all test (map f ns) ≡ list_all (λ n. test (f n)) ns
@@ -97,7 +100,7 @@ or_none true n = refl
 or_none false true = refl
 or_none false false = refl
 
-or_false : (a b : Bool) → (a || (false && b)) ≡ a
+pub or_false : (a b : Bool) → (a || (false && b)) ≡ a
 or_false true b = refl
 or_false false b = refl
 

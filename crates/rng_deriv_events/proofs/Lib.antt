@@ -12,3 +12,4 @@ pub mod LevelTests
 pub mod LevelRenewal
 pub mod KnownDocuments
 pub mod MarkedLevels
+pub mod NextEnds

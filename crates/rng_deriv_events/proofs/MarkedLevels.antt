@@ -2,21 +2,22 @@
 use Rattle.std.proofs.Common.{◌≡◌, ◌∙◌, ℕ, ◌<◌, List, [], length, map, All, ap, subst, refl, sym, Bool, true, false, Option, Some, None, is_some}
 use Rattle.std.proofs.Common.{if◌then◌else◌}
 use Rattle.std.proofs.lemmas.Option.{same_Some}
+use Rattle.std.specs.List.{AllZip}
+use Rattle.rng_model.specs.datatypes.Texts.{is_blank}
 use Rattle.rng_model.specs.simple.Tree.{Simple}
 use Rattle.rng_model.specs.documents.PyxTrees.{Event}
 use Rattle.rng_model.specs.matching.GrammarMatching.{Reading}
 use Rattle.rng_names.specs.plain.Keys.{Keys}
-use Rattle.rng_deriv_laws.specs.plain.LevelEvents.{LevelMatcher, SettlesLevels}
-use Rattle.rng_deriv_laws.specs.plain.LevelStates.{LevelState}
+use Rattle.rng_deriv_laws.specs.plain.LevelEvents.{LevelMatcher, SettlesLevels, as_blank, as_text}
+use Rattle.rng_deriv_laws.specs.plain.LevelStates.{IsAfterText, LevelState}
 use Rattle.rng_deriv_table.specs.declared.pattern.PatternNumber.{PatternNumber}
 use Rattle.rng_deriv_events.specs.views.Innermost.{innermost_of}
 use Rattle.rng_deriv_events.specs.views.KeptLevels.{Grows}
 use Rattle.rng_deriv_events.specs.views.LevelTable.{levels_in, numbers_in}
-use Rattle.rng_deriv_events.specs.views.LevelsLeft.{LevelLeft, left_of, level_in, level_left, marked, settled_level}
+use Rattle.rng_deriv_events.specs.views.LevelsLeft.{LevelLeft, left_of, level_in, level_left, mark_of, marked, settled_level}
 use Rattle.rng_deriv_events.specs.views.Numbers.{IsInside, Longer, tree_of}
-use Rattle.rng_deriv_events.specs.views.OpenPositions.{IsHeldKept, IsPositionKept, held_string, open_position, open_state, open_string}
-use Rattle.rng_deriv_events.specs.views.Positions.{FailsWith, HasCome, IsKnown, IsPositionOf, IsProgressInside, LeadTo, LeadUp}
-use Rattle.rng_deriv_events.specs.views.States.{state_of}
+use Rattle.rng_deriv_events.specs.views.OpenPositions.{IsHeldKept, IsPositionKept, open_position, open_state, open_string}
+use Rattle.rng_deriv_events.specs.views.Positions.{FailsWith, HasCome, IsKnown, IsProgressInside, LeadTo, LeadUp}
 use Rattle.rng_deriv_events.specs.views.Strings.{IsHeld}
 use Rattle.rng_deriv_events.specs.declared.held.Held.{Held}
 use Rattle.rng_deriv_events.specs.declared.left.Left.{Left}
@@ -27,14 +28,12 @@ use Rattle.rng_deriv_events.specs.declared.level_table.table.LevelTable.{LevelTa
 use Rattle.rng_deriv_events.specs.declared.position.Position.{Position}
 use Rattle.rng_deriv_events.specs.declared.progress.Progress.{Progress}
 use Rattle.rng_deriv_events.specs.declared.progress.Progress.TheVariants as progress
-use Rattle.rng_deriv_events.specs.declared.state.State.{State}
 use Rattle.rng_deriv_events.proofs.KeptLevels.{numbers_grow, numbers_inside}
-use Rattle.rng_deriv_events.proofs.Numbers.{all_inside_stay, trees_stay}
-use Rattle.rng_deriv_events.proofs.OpenStates.{held_is, held_none}
-use Rattle.rng_deriv_events.proofs.Positions.{settles_blank, settles_nothing, settles_text}
+use Rattle.rng_deriv_events.proofs.Numbers.{all_inside_stay, longer_through, trees_stay}
 
-pub marked_grows : (old new : List Level) (m : Mark) → Grows old new → m.now.0 < length old → marked new m ≡ marked old m
-marked_grows old new m g lt = ap (λ ns. level_left ns m.has_begun m.has_string m.is_open) (numbers_grow old new m.now.0 g lt)
+pub marked_grows : (old new : List Level) (m : Mark) → Grows old new → (settled_level m.level m.string).0 < length old → marked new m ≡ marked old m
+marked_grows old new m g lt =
+    ap (λ ns. level_left ns m.has_begun (is_some m.string) m.is_open) (numbers_grow old new (settled_level m.level m.string).0 g lt)
 
 -- what the events lead to stays so, when patterns are added
 pub lead_stays : (g : Reading) (old new : List (Simple ℕ)) (l : LevelLeft) (es : List Event) → Longer old new → All (IsInside old) l.now
@@ -71,42 +70,29 @@ pub record Settled (g : Reading) (trees : List (Simple ℕ)) (m : LevelMatcher) 
   pub settles : SettlesLevels g m.held m.state state
   pub now_is : state.now ≡ map (tree_of trees) now
 
-module _ (g : Reading) (trees : List (Simple ℕ)) (p : Position) (m : LevelMatcher) (of : IsPositionOf g trees (open_position p) m) where
+module _ (g : Reading) (trees : List (Simple ℕ)) (t : LevelTable) (now : LevelNumber) (m : LevelMatcher)
+    (at : m.state.now ≡ map (tree_of trees) (numbers_in (levels_in t) now.0)) where
   abbrev SettledAt : LevelNumber → Type 0
-  SettledAt n = Settled g trees m (numbers_in (levels_in p.state.table) n.0)
+  SettledAt n = Settled g trees m (numbers_in (levels_in t) n.0)
 
-  settled_by : (o : Option Held) → p.held ≡ o → SettledAt (settled_level p.state.now o)
-  settled_by None e = record {
-    state = state_of trees (open_state p.state);
-    settles = settles_nothing g trees (open_position p) m (held_none p.state.table p.held e) of;
-    now_is = refl;
-  }
-  settled_by (Some h) e = by_blank h.blank refl where
-    is : open_string p.state.table p.held ≡ Some (held_string p.state.table h)
-    is = held_is p.state.table p.held h e
-
-    by_blank : (b : Bool) → h.blank ≡ b → SettledAt (if b then p.state.now else h.after)
-    by_blank true blank = record {
-      state = state_of trees (open_state p.state);
-      settles = settles_blank g trees (open_position p) (held_string p.state.table h) m is blank of;
-      now_is = refl;
-    }
+  pub settled : (o : Option Held) → IsHeld g trees (numbers_in (levels_in t) now.0) (open_string t o) m.held → SettledAt (settled_level now o)
+  settled None is = record { state = m.state; settles = as_blank (ap is_blank is); now_is = at }
+  settled (Some h) is = by_blank h.blank refl where
+    by_blank : (b : Bool) → h.blank ≡ b → SettledAt (if b then now else h.after)
+    by_blank true blank = record { state = m.state; settles = as_blank (is.0 ∙ blank); now_is = at }
     by_blank false blank =
-        let n : State = record { table = p.state.table; now = h.after; carried = p.state.carried; steps = p.state.steps } in
+        let after = map (tree_of trees) (numbers_in (levels_in t) h.after.0) in
         record {
-          state = state_of trees (open_state n);
-          settles = settles_text g trees (open_position p) (held_string p.state.table h) (open_state n) m is blank refl refl of;
+          state = record { now = after; levels = m.state.levels };
+          settles = as_text (is.0 ∙ blank) (record { now = subst (λ ps. AllZip (IsAfterText g m.held) ps after) (sym at) is.1; levels = refl });
           now_is = refl;
         }
-
-  pub settled : SettledAt (settled_level p.state.now p.held)
-  settled = settled_by p.held refl
 
 -- the events lead to what is left at a position
 pub come_left : (g : Reading) (trees : List (Simple ℕ)) (p : Position) (line : ℕ) (es : List Event) → HasCome g trees (open_position p) line es
     → LeadTo g trees (level_in p) es
 come_left g trees p line es come =
-    let behind = settled g trees p come.matcher come.position in
+    let behind = settled g trees p.state.table p.state.now come.matcher (ap (λ s. s.now) come.position.state) p.held come.position.held in
     record {
       matcher = come.matcher;
       stands = come.stands;
@@ -138,27 +124,29 @@ pub innermost_leads : (g : Reading) (trees : List (Simple ℕ)) (p : Progress) (
 innermost_leads g trees (progress.Going p line) l es is come =
     subst (λ (l : LevelLeft). LeadTo g trees l es) (same_Some (level_in p.value) l is) (come_left g trees p.value line es come)
 innermost_leads g trees (progress.Failed line left) l es is f =
-    subst (λ (l : LevelLeft). FailsWith g trees l es line) (same_Some (left_of left) l is) f
+    subst (λ (l : LevelLeft). FailsWith g trees l left.may_end es line) (same_Some (left_of left) l is) f
 innermost_leads g trees progress.Lost l es is known = tt
 
 -- ---- a step from a position
 
-module _ (g : Reading) (keys : Keys) (old new : List (Simple ℕ)) (p : Position) (levels : List Level) (m : Mark) (l : Left) (kept : IsPositionKept g keys old p)
-    (longer : Longer old new) (grows : Grows (levels_in p.state.table) levels) (at : m.now ≡ settled_level p.state.now p.held)
-    (marks : marked (levels_in p.state.table) m ≡ level_in p) (told : left_of l ≡ marked levels m) where
+-- what is told of the mark of a position, in tables that have grown
+module _ (g : Reading) (keys : Keys) (old mid new : List (Simple ℕ)) (p : Position) (levels : List Level) (m : Mark) (l : Left) (kept : IsPositionKept g keys old p)
+    (longer : Longer old mid) (more : Longer mid new) (grows : Grows (levels_in p.state.table) levels) (at : m ≡ mark_of p) (told : left_of l ≡ marked levels m) where
   left_is : left_of l ≡ level_in p
   left_is =
-      told
-      ∙ marked_grows (levels_in p.state.table) levels m grows
-      (subst (λ (n : LevelNumber). n.0 < length (levels_in p.state.table)) (sym at)
-      (settled_there p.state.table p.state.now p.held kept.state.now kept.held))
-      ∙ marks
+      told ∙ ap (marked levels) at
+      ∙ marked_grows (levels_in p.state.table) levels (mark_of p) grows (settled_there p.state.table p.state.now p.held kept.state.now kept.held)
+
+  longer_all : Longer old new
+  longer_all = longer_through old mid new longer more
 
   -- what was left before the step has numbers of the table behind it
   pub left_inside : All (IsInside new) l.alternatives.items
-  left_inside = all_inside_stay old new longer l.alternatives.items (subst (λ (l : LevelLeft). All (IsInside old) l.now) (sym left_is) (left_kept g keys old p kept))
+  left_inside =
+      all_inside_stay old new longer_all l.alternatives.items (subst (λ (l : LevelLeft). All (IsInside old) l.now) (sym left_is) (left_kept g keys old p kept))
 
   -- and the events before it lead there
   pub left_leads : (line : ℕ) (es : List Event) → HasCome g old (open_position p) line es → LeadTo g new (left_of l) es
   left_leads line es come =
-      subst (λ (l : LevelLeft). LeadTo g new l es) (sym left_is) (lead_stays g old new (level_in p) es longer (left_kept g keys old p kept) (come_left g old p line es come))
+      subst (λ (l : LevelLeft). LeadTo g new l es) (sym left_is)
+      (lead_stays g old new (level_in p) es longer_all (left_kept g keys old p kept) (come_left g old p line es come))

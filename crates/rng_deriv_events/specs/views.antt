@@ -6,6 +6,8 @@ pub mod Inputs
 pub mod KeptLevels
 pub mod Levels
 pub mod LevelsLeft
+pub mod Marks
+pub mod NextEnds
 pub mod Numbers
 pub mod OpenPositions
 pub mod Positions

@@ -80,6 +80,22 @@ pub fn which_end_with<D: Derivatives>(
     Ok(good)
 }
 
+/// Returns whether some alternative may end an element with only a string, blank or not, given what is left of each after
+/// the string.
+pub fn some_end_with<D: Derivatives>(
+    derivatives: &D,
+    now: &[PatternNumber],
+    after: &[PatternNumber],
+    blank: bool,
+) -> bool
+    requires now { All (IsInside (D.trees derivatives.now)) now.now }
+    requires after { All (IsInside (D.trees derivatives.now)) after.now }
+    ensures { result ≡ (list_any (λ p. is_nullable (tree_of (D.trees derivatives.now) p)) after.now
+        || (blank && list_any (λ p. is_nullable (tree_of (D.trees derivatives.now) p)) now.now)) }
+{
+    some_end(derivatives, after) || (blank && some_end(derivatives, now))
+}
+
 /// Returns whether the alternative at a place is good.
 fn is_good(good: &[bool], place: usize) -> bool
     ensures { (result ≡ true) ↔ (slice_get good.now place ≡ Some true) }

@@ -12,6 +12,7 @@ ghost use Rattle.rng_model.specs.documents.ElementTrees.{IsElementTree};
 ghost use Rattle.rng_model.specs.documents.PyxTrees as trees;
 ghost use Rattle.rng_model.specs.documents.PyxTrees.{Placed, events_of};
 ghost use Rattle.rng_deriv_laws.specs.plain.Outcomes.{IsOutcome};
+ghost use Rattle.rng_deriv_events.specs.views.NextEnds.{TellsEnd};
 ghost use Rattle.rng_deriv_events.specs.views.Positions.{IsFailed, IsKnown, IsLost, IsProgressInside};
 ghost use Rattle.rng_model.specs.declared.outcome.Outcome.{Outcome};
 
@@ -19,6 +20,7 @@ use crate::derivatives::Derivatives;
 use crate::ends::some_end;
 use crate::input::Input;
 use crate::level_table::LevelTable;
+use crate::next_end::may_end;
 use crate::numbering::level_of;
 use crate::position::Position;
 use crate::progress::{Progress, take_input};
@@ -163,6 +165,29 @@ impl<D: Derivatives + Drop> EventMatcher<D> {
             Progress::Failed { line, .. } => Ok(Outcome::Invalid(*line)),
             Progress::Lost => Err(OutOfMemory),
         }
+    }
+
+    /// Returns whether the end tag of the innermost open element may come next, or could have come before the event that
+    /// leaves nothing. What is known stays so. Fails only when out of memory, and always after a call that ran out of
+    /// memory.
+    pub fn may_end(&mut self) -> Result<bool, OutOfMemory>
+        ensures basis { OnOk result (D.basis self.new.0 ≡ D.basis self.old.0) }
+        ensures known { OnOk result ((events : List trees.Event) → IsKnown (reading_by (D.basis self.old.0)) (D.trees self.old.0) self.old.1 events
+            → IsKnown (reading_by (D.basis self.new.0)) (D.trees self.new.0) self.new.1 events) }
+        ensures ends { IfOk result (λ told. (events : List trees.Event)
+            → IsKnown (reading_by (D.basis self.old.0)) (D.trees self.old.0) self.old.1 events
+            → TellsEnd (reading_by (D.basis self.old.0)) self.old.1 told events) }
+        ensures failed { (line : ℕ) → IsFailed line self.old.1 → OnOk result (IsFailed line self.new.1) }
+        ensures kept { OnOk result (¬ (IsLost self.new.1)) }
+        ensures lost { OnErr result (IsLost self.new.1) }
+        ensures again { IsLost self.old.1 → IsErr result }
+    {
+        let progress = &mut self.progress;
+        if let Ok(told) = may_end(&mut self.derivatives, self.alloc, progress) {
+            return Ok(told);
+        }
+        *progress = Progress::Lost;
+        Err(OutOfMemory)
     }
 
     /// Takes the next event. Fails only when out of memory, and always after a call that ran out of memory.

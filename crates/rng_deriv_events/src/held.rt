@@ -14,7 +14,7 @@ use rng_model::OutOfMemory;
 use std::alloc::Global;
 
 /// A string: whether it is blank, and the level after it.
-#[derive(Drop)]
+#[derive(Clone, Copy)]
 pub struct Held {
     pub blank: bool,
     pub after: LevelNumber,

@@ -40,7 +40,10 @@ fn innermost_in(position: &Position) -> Innermost<'_>
     ensures { level_left result.alternatives.now result.has_begun result.has_string result.is_open ≡ level_in position.now }
 {
     Innermost {
-        alternatives: position.state.table.numbers_at(settled_level(position)),
+        alternatives: position
+            .state
+            .table
+            .numbers_at(settled_level(position.state.now, position.held)),
         has_begun: position.has_begun,
         has_string: position.held.is_some(),
         is_open: is_within(&position.state),

@@ -1,8 +1,17 @@
 // What is left of the innermost open element.
-ghost use Rattle.std.specs.Prelude.{◌≡◌, IfOk};
+ghost use Rattle.std.specs.Prelude.{◌≡◌, ◌↔◌, IfOk, OnOk, true};
+ghost use Rattle.rng_deriv_laws.specs.plain.LevelEvents.{LevelMatcher};
+ghost use Rattle.rng_deriv_events.specs.views.Basis.{HoldsBy, Keeps, reading_by};
+ghost use Rattle.rng_deriv_events.specs.views.KeptLevels.{AddsLevels, AreKept};
 ghost use Rattle.rng_deriv_events.specs.views.LevelTable.{levels_in};
-ghost use Rattle.rng_deriv_events.specs.views.LevelsLeft.{is_within, left_of, level_in, marked, settled_level};
+ghost use Rattle.rng_deriv_events.specs.views.LevelsLeft.{is_within, left_of, mark_of, marked, settled_level};
+ghost use Rattle.rng_deriv_events.specs.views.Marks.{IsMarkKept, IsMarkOf};
+ghost use Rattle.rng_deriv_events.specs.views.NextEnds.{EndMayCome};
+ghost use Rattle.rng_deriv_events.specs.views.Numbers.{Longer};
 
+use crate::derivatives::Derivatives;
+use crate::ends::{some_end, some_end_with};
+use crate::held::{Held, held_or_empty};
 use crate::level_table::{LevelNumber, LevelTable};
 use crate::position::Position;
 use crate::state::State;
@@ -21,14 +30,17 @@ pub struct Left {
     pub has_string: bool,
     /// Whether an element is open.
     pub is_open: bool,
+    /// Whether the end tag of the element may come next.
+    pub may_end: bool,
 }
 
 /// A place of a matcher: what is left there is known by it, as long as the table of levels only grows.
 #[derive(Clone, Copy)]
 pub struct Mark {
-    now: LevelNumber,
+    /// The level before the held string.
+    level: LevelNumber,
+    string: Option<Held>,
     has_begun: bool,
-    has_string: bool,
     is_open: bool,
 }
 
@@ -43,12 +55,12 @@ pub fn is_within(state: &State) -> bool
 /// Returns the level behind the held string, given that an element is beside it. A blank string counts as nothing there
 /// (RELAX NG Specification, section 6.2.7).
 #[inline(always)]
-pub fn settled_level(position: &Position) -> LevelNumber
-    ensures { result ≡ settled_level position.now.state.now position.now.held }
+pub fn settled_level(level: LevelNumber, string: Option<Held>) -> LevelNumber
+    ensures { result ≡ settled_level level string }
 {
-    match &position.held {
-        Some(held) if !held.blank => held.after,
-        _ => position.state.now,
+    match string {
+        Some(string) if !string.blank => string.after,
+        _ => level,
     }
 }
 
@@ -56,28 +68,70 @@ impl Mark {
     /// Returns the mark of a position. Allocates nothing.
     #[inline(always)]
     pub fn of(position: &Position) -> Mark
-        ensures now { result.now ≡ settled_level position.now.state.now position.now.held }
-        ensures left { marked (levels_in position.now.state.table) result ≡ level_in position.now }
+        ensures { result ≡ mark_of position.now }
     {
         Mark {
-            now: settled_level(position),
+            level: position.state.now,
+            string: position.held,
             has_begun: position.has_begun,
-            has_string: position.held.is_some(),
             is_open: is_within(&position.state),
         }
     }
 
+    /// Returns whether the end tag may come next at the mark: whether some alternative may end. Adds the level after the
+    /// empty string if the element has nothing.
+    ///
+    /// RELAX NG Specification, section 6.2.7. Fails only when out of memory.
+    pub fn may_end<D: Derivatives>(
+        self,
+        derivatives: &mut D,
+        alloc: Global,
+        table: &mut LevelTable,
+    ) -> Result<bool, OutOfMemory>
+        requires kept { HoldsBy AreKept (D.basis derivatives.old) (D.trees derivatives.old) table.old }
+        requires mark { IsMarkKept table.old self }
+        ensures keeps { OnOk result (Keeps (AddsLevels table.old) (D.basis derivatives.old) (D.basis derivatives.new) (D.trees derivatives.new) table.new) }
+        ensures longer { OnOk result (Longer (D.trees derivatives.old) (D.trees derivatives.new)) }
+        ensures ends { IfOk result (λ told. (m : LevelMatcher) → IsMarkOf (reading_by (D.basis derivatives.old)) (D.trees derivatives.old) table.old self m
+            → (told ≡ true) ↔ EndMayCome (reading_by (D.basis derivatives.old)) m) }
+    {
+        if !self.is_open {
+            return Ok(false);
+        }
+        if self.has_begun {
+            let level = settled_level(self.level, self.string);
+            return Ok(some_end(derivatives, table.numbers(level)));
+        }
+        let string = held_or_empty(derivatives, alloc, table, self.level, self.string)?;
+        let now = table.numbers(self.level);
+        let after = table.numbers(string.after);
+        Ok(some_end_with(derivatives, now, after, string.blank))
+    }
+
     /// Returns what is left at the mark. Fails only when out of memory.
-    pub fn left(self, alloc: Global, table: &LevelTable) -> Result<Left, OutOfMemory>
-        ensures { IfOk result (λ l. left_of l ≡ marked (levels_in table.now) self) }
+    pub fn left<D: Derivatives>(
+        self,
+        derivatives: &mut D,
+        alloc: Global,
+        table: &mut LevelTable,
+    ) -> Result<Left, OutOfMemory>
+        requires kept { HoldsBy AreKept (D.basis derivatives.old) (D.trees derivatives.old) table.old }
+        requires mark { IsMarkKept table.old self }
+        ensures basis { OnOk result (D.basis derivatives.new ≡ D.basis derivatives.old) }
+        ensures longer { OnOk result (Longer (D.trees derivatives.old) (D.trees derivatives.new)) }
+        ensures left { IfOk result (λ l. left_of l ≡ marked (levels_in table.old) self) }
+        ensures ends { IfOk result (λ l. (m : LevelMatcher) → IsMarkOf (reading_by (D.basis derivatives.old)) (D.trees derivatives.old) table.old self m
+            → (l.may_end ≡ true) ↔ EndMayCome (reading_by (D.basis derivatives.old)) m) }
     {
         let mut alternatives = Vec::new(alloc);
-        alternatives.extend_from_slice(table.numbers_at(self.now))?;
+        alternatives.extend_from_slice(table.numbers_at(settled_level(self.level, self.string)))?;
+        let may_end = self.may_end(derivatives, alloc, table)?;
         Ok(Left {
             alternatives,
             has_begun: self.has_begun,
-            has_string: self.has_string,
+            has_string: self.string.is_some(),
             is_open: self.is_open,
+            may_end,
         })
     }
 }

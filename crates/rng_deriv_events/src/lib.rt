@@ -22,6 +22,7 @@ mod level_table;
 mod levels;
 mod links;
 mod lists;
+mod next_end;
 mod numbering;
 mod position;
 mod progress;

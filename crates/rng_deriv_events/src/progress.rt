@@ -93,7 +93,8 @@ fn go_on<D: Derivatives>(
     let mark = Mark::of(position);
     step_by(derivatives, alloc, position, input)?;
     if position.state.table.level(position.state.now).dead {
-        return Ok(Some(mark.left(alloc, &position.state.table)?));
+        let left = mark.left(derivatives, alloc, &mut position.state.table)?;
+        return Ok(Some(left));
     }
     renew(derivatives, alloc, position)?;
     Ok(None)

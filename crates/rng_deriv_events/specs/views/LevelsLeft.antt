@@ -30,12 +30,16 @@ abbrev pub settled_level : LevelNumber → Option Held → LevelNumber
 settled_level now None = now
 settled_level now (Some h) = if h.blank then now else h.after
 
-abbrev pub level_in : Position → LevelLeft
-level_in p = level_left (numbers_in (levels_in p.state.table) (settled_level p.state.now p.held).0) p.has_begun (is_some p.held) (is_within p.state)
+-- the mark of a position
+abbrev pub mark_of : Position → Mark
+mark_of p = record { level = p.state.now; string = p.held; has_begun = p.has_begun; is_open = is_within p.state }
 
 -- what is left at a mark, by the levels of a table
 abbrev pub marked : List Level → Mark → LevelLeft
-marked levels m = level_left (numbers_in levels m.now.0) m.has_begun m.has_string m.is_open
+marked levels m = level_left (numbers_in levels (settled_level m.level m.string).0) m.has_begun (is_some m.string) m.is_open
+
+abbrev pub level_in : Position → LevelLeft
+level_in p = marked (levels_in p.state.table) (mark_of p)
 
 abbrev pub left_of : Left → LevelLeft
 left_of l = level_left l.alternatives.items l.has_begun l.has_string l.is_open

@@ -1,17 +1,10 @@
-use Rattle.std.proofs.Common.{◌≡◌, ◌∙◌, ℕ, List, length, map, sym}
-use Rattle.std.proofs.lemmas.List.{length-map}
+use Rattle.std.proofs.Common.{◌∙◌, sym}
 use Rattle.std.proofs.lemmas.Option.{IfSome_then}
-use Rattle.rng_model.specs.simple.Tree.{Simple}
-use Rattle.rng_deriv_laws.specs.plain.Derivatives.{is_nullable}
 use Rattle.rng_deriv_events.specs.views.LevelTable.{levels_in, numbers_in}
-use Rattle.rng_deriv_table.specs.declared.pattern.PatternNumber.{PatternNumber}
 use Rattle.rng_deriv_events.specs.views.KeptLevels.{nullable_in}
-use Rattle.rng_deriv_events.specs.views.Numbers.{tree_of}
 use Rattle.rng_deriv_events.proofs.KeptLevels.{good_is}
+use Rattle.rng_deriv_events.proofs.LevelTests.{tests_long}
 use Rattle.rng_deriv_events.proofs.leaving.bits_with.Goals as goal
-
-tests_long : (trees : List (Simple ℕ)) (ps : List PatternNumber) → length (nullable_in trees ps) ≡ length ps
-tests_long trees ps = length-map (map (tree_of trees) ps) is_nullable ∙ length-map ps (tree_of trees)
 
 pub returns : goal.returns
 returns c =
