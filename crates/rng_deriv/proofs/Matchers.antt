@@ -1,5 +1,5 @@
 -- A matcher of a grammar, given what the event matcher inside it does.
-use Rattle.std.proofs.Common.{◌≡◌, ◌∙◌, ℕ, Bool, List, [], ◌∷◌, ◌++◌, Result, Ok, Err, OnOk, append_assoc, sym, ap, subst}
+use Rattle.std.proofs.Common.{◌≡◌, ◌∙◌, ℕ, Bool, List, [], ◌∷◌, ◌++◌, Result, Ok, Err, OnOk, append-nil, append_assoc, sym, ap, subst}
 use Rattle.rng_model.specs.documents.EventViews.{Hands}
 use Rattle.rng_model.specs.datatypes.Texts.{is_blank}
 use Rattle.rng_model.specs.documents.PyxTrees.{Event, a_string}
@@ -39,6 +39,18 @@ module _ (inside m : Matching) (is : inside ≡ m) where
   any_goes_on {A} {E} new line blank (Ok x) same on failed kept = λ text is.
       goes_on {A = A} {E = E} new (event_at line (a_string text)) (Ok x) same (λ es. on text es is) failed kept
   any_goes_on new line blank (Err f) same on failed kept = tt
+
+  -- no event is taken
+  pub stays : {A E : Type 0} (new : Matching) (r : Result A E) → OnOk r (new.grammar ≡ inside.grammar)
+      → OnOk r ((es : List Event) → Knows inside es → Knows new es) → ((line : ℕ) → HasFailedAt inside line → OnOk r (HasFailedAt new line))
+      → OnOk r (¬ (HasRunOut new)) → OnOk r (HasGoneOn m new [])
+  stays new (Ok x) same on failed kept = subst (λ (m : Matching). HasGoneOn m new []) is (record {
+    grammar = same;
+    knows = λ before k. subst (Knows new) (sym (append-nil before)) (on before k);
+    failed = failed;
+    kept = λ lost. absurd (kept lost);
+  })
+  stays new (Err f) same on failed kept = tt
 
   -- what has failed stays so
   pub stays_failed : {A E : Type 0} (new : Matching) (r : Result A E) → ((line : ℕ) → HasFailedAt inside line → OnOk r (HasFailedAt new line))

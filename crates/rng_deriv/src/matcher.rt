@@ -10,6 +10,7 @@ ghost use Rattle.rng_model.specs.matching.GrammarMatching.{reading_of};
 ghost use Rattle.rng_deriv_laws.specs.plain.Outcomes.{IsOutcome};
 ghost use Rattle.rng_model.specs.datatypes.Texts.{is_blank};
 ghost use Rattle.rng_deriv_events.specs.views.Inputs.{event_at, tests_strings};
+ghost use Rattle.rng_deriv_events.specs.views.NextEnds.{TellsEnd};
 ghost use Rattle.rng_deriv.specs.views.Matchers.{HasFailedAt, HasGoneOn, HasRunOut, IsStateBy, Knows, judges_by, matching_in};
 ghost use Rattle.rng_model.specs.declared.outcome.Outcome.{Outcome};
 
@@ -106,6 +107,22 @@ impl<'a> Matcher<'a> {
         ensures lost { OnErr result (HasRunOut self.new) }
     {
         self.matcher.take_any_text(line, blank)
+    }
+
+    /// Returns whether the end tag of the innermost open element may come next, or could have come before the event after
+    /// which no continuation is valid. What is known stays so.
+    ///
+    /// It may come where an element is open and some alternative for what remains of it may end: behind the string that has
+    /// come since the last tag, if there is a child element, otherwise with that string alone. RELAX NG Specification,
+    /// sections 6.2 and 6.2.7. Fails only when out of memory. Costs a test of each alternative; if an element has nothing,
+    /// also what an empty text costs.
+    pub fn may_end(&mut self) -> Result<bool, OutOfMemory>
+        ensures ends { IfOk result (λ told. (es : List trees.Event) → Knows self.old es → TellsEnd (judges_by self.old) self.old.progress told es) }
+        ensures same { OnOk result (HasGoneOn self.old self.new []) }
+        ensures lost { OnErr result (HasRunOut self.new) }
+        ensures again { HasRunOut self.old → IsErr result }
+    {
+        self.matcher.may_end()
     }
 
     /// Returns the outcome of the document with the events that were taken: `Valid` exactly if the document is valid by
