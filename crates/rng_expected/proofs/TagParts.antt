@@ -13,7 +13,7 @@ use Rattle.rng_deriv_table.specs.views.Node.{Node}
 use Rattle.rng_deriv_table.specs.views.Trees.{tree_of}
 use Rattle.rng_deriv_table.specs.declared.pattern.PatternNumber.{PatternNumber}
 use Rattle.rng_expected.specs.Expectations.{BeginsWith}
-use Rattle.rng_expected.specs.Tags.{HasAttribute, IsTag, MayBegin, Needs, Tag, no_tag}
+use Rattle.rng_expected.specs.Tags.{AreBodies, HasAttribute, IsTag, MayBegin, Needs, Tag, no_tag}
 use Rattle.rng_expected.specs.plain.Leaves.{AreLeaves, Stands}
 use Rattle.rng_expected.specs.plain.TagLeaves.{AreBodiesOf, AreClassesOf, AreNeeded, IsNamed}
 use Rattle.rng_expected.specs.declared.leaves.Standing.TheVariants as standings
@@ -44,7 +44,7 @@ has_attribute (s_joined interleave p q) l = (
   λ h. ⊎_elim (λ f. inl ((has_attribute p l).1 f.1)) (λ f. inr ((has_attribute q l).1 f.1)) h,
 )
 
-module _ (t : Table) (ns : List Node) (ps starts bodies attributes : List PatternNumber) (q : Name) (tag : Tag) where
+module _ (t : Table) (ns : List Node) (ps starts bodies : List PatternNumber) (q : Name) where
   abbrev of : PatternNumber → Simple ℕ
   of n = tree_of t ns n.0
 
@@ -64,35 +64,43 @@ module _ (t : Table) (ns : List Node) (ps starts bodies attributes : List Patter
       let o = (are.law (s_leaf k)).0 (m.0, m.1, (begins_first (of m.0) (s_leaf k)).0 begun) in
       (o.0, o.1, (sym o.2, may.1))
 
-  pub is_tag : AreLeaves standings.First t ns ps starts → AreBodiesOf t ns q starts bodies → AreLeaves standings.InTag t ns bodies attributes
-      → AreClassesOf t ns attributes tag.attributes → AreNeeded t ns bodies tag.attributes tag.required → IsTag (reading_of t) (map of ps) q tag
-  is_tag first those inside are needed = record {
-    bodies = map of bodies;
-    are = record {
-      each = λ b c.
-          let m = member_before of b bodies c in
-          let h = those.each m.0 m.1 in
-          (h.1, begins first h.0 h.1 h.2 h.3, subst (λ p. Same (reading_of t) p (body_of (reading_of t) h.1)) m.2 h.4);
-      all = λ k may.
-          let n = found_begins first k may in
-          let h = those.all n.0 k n.1 n.2 in
-          (of h.0, contains_mapped of bodies h.0 h.1, h.2);
-    };
+  -- the bodies of the leaves that are found
+  pub are_bodies : AreLeaves standings.First t ns ps starts → AreBodiesOf t ns q starts bodies → AreBodies (reading_of t) (map of ps) q (map of bodies)
+  are_bodies first those = record {
+    each = λ b c.
+        let m = member_before of b bodies c in
+        let h = those.each m.0 m.1 in
+        (h.1, begins first h.0 h.1 h.2 h.3, subst (λ p. Same (reading_of t) p (body_of (reading_of t) h.1)) m.2 h.4);
+    all = λ k may.
+        let n = found_begins first k may in
+        let h = those.all n.0 k n.1 n.2 in
+        (of h.0, contains_mapped of bodies h.0 h.1, h.2);
+  }
+
+module _ (t : Table) (ns : List Node) (ps bodies attributes : List PatternNumber) (q : Name) (tag : Tag) where
+  abbrev tree : PatternNumber → Simple ℕ
+  tree n = tree_of t ns n.0
+
+  pub is_tag : AreBodies (reading_of t) (map tree ps) q (map tree bodies) → AreLeaves standings.InTag t ns bodies attributes
+      → AreClassesOf t ns attributes tag.attributes → AreNeeded t ns bodies tag.attributes tag.required → IsTag (reading_of t) (map tree ps) q tag
+  is_tag those inside are needed = record {
+    bodies = map tree bodies;
+    are = those;
     each = λ c h.
         let n = are.each c h in
         let m = (inside.law (s_attribute c n.2.0)).1 (n.0, n.1, sym n.2.1) in
-        (of m.0, contains_mapped of bodies m.0 m.1, (n.2.0, (has_attribute (of m.0) (s_attribute c n.2.0)).1 m.2));
+        (tree m.0, contains_mapped tree bodies m.0 m.1, (n.2.0, (has_attribute (tree m.0) (s_attribute c n.2.0)).1 m.2));
     all = λ b c h has.
-        let m = member_before of b bodies h in
+        let m = member_before tree b bodies h in
         let here = subst (λ p. HasAttribute p (s_attribute c has.0)) (sym m.2) has.1 in
-        let o = (inside.law (s_attribute c has.0)).0 (m.0, m.1, (has_attribute (of m.0) (s_attribute c has.0)).0 here) in
+        let o = (inside.law (s_attribute c has.0)).0 (m.0, m.1, (has_attribute (tree m.0) (s_attribute c has.0)).0 here) in
         are.all o.0 c o.1 (has.0, sym o.2);
     required = λ n. (
-      λ h. let d = (needed n).0 h in (d.0, All-map (Needs n) of bodies d.1),
+      λ h. let d = (needed n).0 h in (d.0, All-map (Needs n) tree bodies d.1),
       λ d. (needed n).1 (
         d.0,
-        all_from_members (λ (b : PatternNumber). Needs n (of b)) bodies
-            (λ b c. All-contains (Needs n) (map of bodies) (of b) d.1 (contains_mapped of bodies b c)),
+        all_from_members (λ (b : PatternNumber). Needs n (tree b)) bodies
+            (λ b c. All-contains (Needs n) (map tree bodies) (tree b) d.1 (contains_mapped tree bodies b c)),
       ),
     );
   }

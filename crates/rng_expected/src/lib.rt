@@ -3,7 +3,8 @@
 //! `expected` returns the name classes of the elements that may start, whether a text may come, and the values and the
 //! datatypes of which it may be. It is right for what is left of the pattern, by the rules of matching (RELAX NG
 //! Specification, section 6.2): an element pattern counts where it stands, whether or not its body can be matched.
-//! `expected_tag` returns the attributes that the tag of such an element may have, and the names that it must have.
+//! `expected_tag` returns the attributes that the tag of such an element may have, and the names that it must have;
+//! `expected_bodies` returns the bodies of the elements that it may begin.
 //! `expectation_laws` says that no continuation is valid after a start that is not expected, after one whose tag lacks an
 //! attribute that it must have or has one that it may not have, or after an end where no alternative may end.
 #![tactic(auto)]
@@ -19,7 +20,7 @@ mod tags;
 
 pub use expecting::expected;
 pub use next::Expected;
-pub use tags::{ExpectedTag, expected_tag};
+pub use tags::{ExpectedTag, expected_bodies, expected_tag};
 
 /// States what cannot come (RELAX NG Specification, sections 6.2 and 6.3). The function does nothing: its contract is the
 /// laws. No continuation is valid after a start whose name is in no class with which an alternative may begin, and after

@@ -5,9 +5,10 @@ ghost use Rattle.rng_model.specs.matching.GrammarMatching.{reading_of};
 ghost use Rattle.rng_model.specs.names.NameViews.{class_of, name_of};
 ghost use Rattle.rng_model.specs.simple.TableRules.{IsClassPaired, IsPaired, IsTable};
 ghost use Rattle.rng_model.specs.simple.Table.{Table};
+ghost use Rattle.rng_deriv_laws.specs.plain.Restricted.{IsRestricted};
 ghost use Rattle.rng_deriv_table.specs.views.Trees.{attribute_found, tree_of};
-ghost use Rattle.rng_deriv_ways.specs.plain.Starting.{IsReady};
-ghost use Rattle.rng_expected.specs.Tags.{IsTag, no_tag};
+ghost use Rattle.rng_deriv_ways.specs.plain.Starting.{HasRestrictedBodies, IsReady};
+ghost use Rattle.rng_expected.specs.Tags.{AreBodies, IsTag, no_tag};
 ghost use Rattle.rng_expected.specs.plain.Leaves.{IsLeafAt};
 ghost use Rattle.rng_expected.specs.plain.TagLeaves.{AreBodiesOf, AreClassesOf, IsBody, IsClass, IsClassOf};
 ghost use Rattle.rng_expected.specs.views.Next.{tag_of};
@@ -62,8 +63,7 @@ pub fn expected_tag<'a>(
     ensures { IfOk result (λ tag. IsTag (reading_of context.now.grammar.now)
         (map (λ n. tree_of context.now.grammar.now table.now n.0) alternatives.now) (name_of name.now) (tag_of tag)) }
 {
-    let starts = leaves(context.alloc, table, Standing::First, alternatives)?;
-    let bodies = bodies_of(context, table, starts.as_slice(), name)?;
+    let bodies = expected_bodies(context, table, alternatives, name)?;
     let found = leaves(context.alloc, table, Standing::InTag, bodies.as_slice())?;
     let attributes = classes_of(context, table, found.as_slice())?;
     let required = needed_of(context, table, bodies.as_slice(), attributes.as_slice())?;
@@ -71,6 +71,31 @@ pub fn expected_tag<'a>(
         attributes,
         required,
     })
+}
+
+/// Returns the bodies of the elements of this name that may come next, by the alternatives for what remains of the element
+/// around them. A body may be listed several times.
+///
+/// RELAX NG Specification, section 6.2.7. If the bodies of the grammar's elements obey section 7 in the table, so do these.
+/// Fails only when out of memory. Time and memory are linear in the number of patterns of the table.
+pub fn expected_bodies(
+    context: &Context<'_>,
+    table: &PatternTable,
+    alternatives: &[PatternNumber],
+    name: &Name,
+) -> Result<Vec<PatternNumber>, OutOfMemory>
+    requires inside { All (λ n. n.0 < length table.now) alternatives.now }
+    requires ready { IsReady context.now.grammar.now table.now context.now.numbers.now }
+    ensures inside { IfOk result (λ bodies. All (λ b. b.0 < length table.now) bodies.items) }
+    ensures bodies { IfOk result (λ bodies. AreBodies (reading_of context.now.grammar.now)
+        (map (λ n. tree_of context.now.grammar.now table.now n.0) alternatives.now) (name_of name.now)
+        (map (λ b. tree_of context.now.grammar.now table.now b.0) bodies.items)) }
+    ensures restricted { IfOk result (λ bodies. HasRestrictedBodies context.now.grammar.now table.now context.now.numbers.now
+        → All (λ b. IsRestricted (tree_of context.now.grammar.now table.now b.0)) bodies.items) }
+{
+    let starts = leaves(context.alloc, table, Standing::First, alternatives)?;
+    let bodies = bodies_of(context, table, starts.as_slice(), name)?;
+    Ok(bodies)
 }
 
 /// Returns the bodies of the leaves that are elements which may have the name.
@@ -82,7 +107,9 @@ fn bodies_of(
 ) -> Result<Vec<PatternNumber>, OutOfMemory>
     requires ready { IsReady context.now.grammar.now table.now context.now.numbers.now }
     requires starts { All (IsLeafAt Standing.First table.now) starts.now }
-    ensures { IfOk result (λ bodies. AreBodiesOf context.now.grammar.now table.now (name_of name.now) starts.now bodies.items) }
+    ensures bodies { IfOk result (λ bodies. AreBodiesOf context.now.grammar.now table.now (name_of name.now) starts.now bodies.items) }
+    ensures restricted { IfOk result (λ bodies. HasRestrictedBodies context.now.grammar.now table.now context.now.numbers.now
+        → All (λ b. IsRestricted (tree_of context.now.grammar.now table.now b.0)) bodies.items) }
 {
     let mut bodies = Vec::new(context.alloc);
     'starts: for leaf in starts {
@@ -103,7 +130,9 @@ fn body_of(
 ) -> Option<PatternNumber>
     requires ready { IsReady context.now.grammar.now table.now context.now.numbers.now }
     requires leaf { IsLeafAt Standing.First table.now leaf }
-    ensures { IsBody context.now.grammar.now table.now (name_of name.now) leaf result }
+    ensures body { IsBody context.now.grammar.now table.now (name_of name.now) leaf result }
+    ensures restricted { IfSome result (λ b. HasRestrictedBodies context.now.grammar.now table.now context.now.numbers.now
+        → IsRestricted (tree_of context.now.grammar.now table.now b.0)) }
 {
     let Pattern::Element(element) = table.pattern(leaf) else {
         return None;

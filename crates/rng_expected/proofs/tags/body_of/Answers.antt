@@ -3,6 +3,7 @@ use Rattle.rng_model.specs.names.NameViews.{class_of, name_of}
 use Rattle.rng_model.specs.matching.GrammarMatching.{reading_of}
 use Rattle.rng_names.proofs.Holding.{holds-Decides}
 use Rattle.rng_deriv_laws.specs.plain.Reading.{body_of, has_name}
+use Rattle.rng_deriv_laws.specs.plain.Restricted.{IsRestricted}
 use Rattle.rng_deriv_laws.specs.plain.Taking.{Same}
 use Rattle.rng_deriv_table.specs.plain.AskedFor.{as_body}
 use Rattle.rng_deriv_table.specs.views.Taking.{tree_by}
@@ -13,13 +14,13 @@ use Rattle.rng_deriv_ways.proofs.StartBodies.{body_inside}
 use Rattle.rng_expected.proofs.TagLeaves.{element_number, element_tree, no_element}
 use Rattle.rng_expected.proofs.tags.body_of.Goals as goal
 
-pub returns-in_default : goal.returns-in_default
-returns-in_default c = λ k named.
+pub returns-in_default-clause-body : goal.returns-in_default-clause-body
+returns-in_default-clause-body c = λ k named.
     no_element c.args.context.now.grammar.now c.args.table.now c.args.leaf c.pattern.result.now c.pattern.ensures.table c.pattern.ensures.found c.requires.leaf
     c.in_default.not-Element k named.0
 
-pub returns-in_default-element : goal.returns-in_default-element
-returns-in_default-element c = λ k named.
+pub returns-in_default-element-clause-body : goal.returns-in_default-element-clause-body
+returns-in_default-element-clause-body c = λ k named.
     let t = c.args.context.now.grammar.now in
     let same = element_number t c.args.table.now c.args.leaf c.pattern.result.now c.pattern.ensures.table c.pattern.ensures.found c.in-Element.element
     c.in-Element.is k named.0 in
@@ -27,8 +28,8 @@ returns-in_default-element c = λ k named.
     let no : false ≡ true = sym none ∙ ap (λ k. has_name (reading_of t) k (name_of c.args.name.now)) same ∙ named.1 in
     absurd cc
 
-pub returns-then-not-contains : goal.returns-then-not-contains
-returns-then-not-contains c = λ k named.
+pub returns-then-not-contains-clause-body : goal.returns-then-not-contains-clause-body
+returns-then-not-contains-clause-body c = λ k named.
     let t = c.args.context.now.grammar.now in
     let q = name_of c.args.name.now in
     let e = c.in-Some.field-0.now in
@@ -47,8 +48,8 @@ number_at-requires c =
     let long = c.requires.ready.long in
     omega (arith, inside, long)
 
-pub returns : goal.returns
-returns c =
+pub returns-clause-body : goal.returns-clause-body
+returns-clause-body c =
     let t = c.args.context.now.grammar.now in
     let ns = c.args.table.now in
     let g = reading_of t in
@@ -72,3 +73,10 @@ returns c =
             (c.requires.ready.taken.same e.1.0 there (as_body k e found refl) g)),
       ),
     )
+
+pub returns-clause-restricted : goal.returns-clause-restricted
+returns-clause-restricted c = λ each.
+    let t = c.args.context.now.grammar.now in
+    let found : slice_get t.elements c.in-Element.element.0 ≡ Some c.in-Some.field-0.now = sym c.element.ensures ∙ ap Rattle.std.specs.Option.option_copied c.in-Some.is in
+    let Obeys : PatternNumber → Type 0 = λ b. IsRestricted (tree_of t c.args.table.now b.0) in
+    subst Obeys (sym c.number_at.ensures) (each c.in-Element.element.0 c.in-Some.field-0.now found).restricted
