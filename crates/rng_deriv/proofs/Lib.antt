@@ -6,3 +6,5 @@ mod KeptStarts
 mod PatternRenewal
 mod FollowingEvents
 mod BoxedLearning
+mod GrownTables
+mod TagFaults

@@ -1,6 +1,7 @@
 // What a matcher keeps, without its grammar.
-ghost use Rattle.std.specs.Prelude.{◌≡◌, ◌↔◌, List, IfOk, IfSome, None};
+ghost use Rattle.std.specs.Prelude.{◌≡◌, ◌↔◌, List, IfOk, IfSome, IsErr, None, OnErr, OnOk, map};
 ghost use Rattle.rng_model.specs.simple.Table.{Table};
+ghost use Rattle.rng_model.specs.documents.EventViews.{attribute_of};
 ghost use Rattle.rng_model.specs.documents.PyxTrees as trees;
 ghost use Rattle.rng_model.specs.matching.GrammarMatching.{reading_of};
 ghost use Rattle.rng_model.specs.names.NameViews.{name_of};
@@ -8,16 +9,18 @@ ghost use Rattle.rng_expected.specs.views.Next.{next_of, tag_of};
 ghost use Rattle.rng_deriv_events.specs.views.Inputs.{tests_strings};
 ghost use Rattle.rng_deriv_events.specs.views.Positions.{failed_line};
 ghost use Rattle.rng_deriv.specs.views.Alternatives.{unless_lost};
-ghost use Rattle.rng_deriv.specs.views.Followers.{MayFollow, MayHave};
-ghost use Rattle.rng_deriv.specs.views.Matchers.{HasFailedAt, HasRunOut, IsStateBy, Knows, matching_in};
+ghost use Rattle.rng_deriv.specs.views.Followers.{HasTagFault, MayFollow, MayHave};
+ghost use Rattle.rng_deriv.specs.views.Matchers.{HasFailedAt, HasRunOut, IsStateBy, Knows, matching_in, trees_in};
 
 use crate::learned::Learned;
 use rng_deriv_events::Progress;
 use rng_deriv_table::PatternNumber;
 use rng_deriv_ways::Context;
-use rng_expected::{Expected, ExpectedTag, expected, expected_tag};
-use rng_model::{Name, OutOfMemory, SimpleGrammar};
+use rng_expected::{Expected, ExpectedTag, expected, expected_bodies, expected_tag};
+use rng_model::{Attr, Name, OutOfMemory, SimpleGrammar};
+use rng_reasons::{TagFault, tag_fault};
 use std::alloc::Global;
+use std::mem;
 
 /// What a matcher keeps of a document, and what it has learned about a grammar, without the grammar.
 ///
@@ -120,5 +123,58 @@ impl MatcherState {
         };
         let tag = expected_tag(&context, &learned.table, left.alternatives, name)?;
         Ok(Some(tag))
+    }
+
+    /// Returns why a start tag of this name with these attributes leaves nothing of what may come next, or of what could have
+    /// come before the event after which no continuation is valid. Returns `None` if it leaves something.
+    ///
+    /// It is stated on what is left of the pattern (`TagFault`). After a string it is by what may come behind that string; a
+    /// blank string counts as nothing. What is known of the document stays, in a table that may have grown. RELAX NG
+    /// Specification, sections 6.2.7 and 6.2.8. Fails only when out of memory, in this call or in an earlier one; from then
+    /// on each call fails. Costs what `expected_bodies` and the `tag_fault` of `rng_reasons` cost.
+    pub fn tag_fault(
+        &mut self,
+        alloc: Global,
+        grammar: &SimpleGrammar,
+        name: &Name,
+        attrs: &[Attr],
+    ) -> Result<Option<TagFault>, OutOfMemory>
+        requires { IsStateBy grammar.now self.old }
+        ensures state { IsStateBy grammar.now self.new }
+        ensures knows { OnOk result ((es : List trees.Event) → Knows (matching_in grammar.now self.old) es
+            → Knows (matching_in grammar.now self.new) es) }
+        ensures same { OnOk result (self.new.progress ≡ self.old.progress) }
+        ensures fault { IfOk result (λ fault. (es : List trees.Event) → Knows (matching_in grammar.now self.old) es
+            → HasTagFault (reading_of grammar.now) self.old.progress (trees_in (matching_in grammar.now self.new))
+            (name_of name.now) (map attribute_of attrs.now) fault es) }
+        ensures lost { OnErr result (HasRunOut (matching_in grammar.now self.new)) }
+        ensures again { HasRunOut (matching_in grammar.now self.old) → IsErr result }
+    {
+        let progress = mem::replace(&mut self.progress, Progress::Lost);
+        let Some(left) = progress.innermost() else {
+            return Err(OutOfMemory);
+        };
+        let learned = &mut *self.learned;
+        if learned.lost {
+            return Err(OutOfMemory);
+        }
+        let context = Context {
+            alloc,
+            grammar,
+            keys: &learned.keys,
+            numbers: learned.numbers.as_slice(),
+        };
+        let bodies = expected_bodies(&context, &learned.table, left.alternatives, name)?;
+        learned.lost = true;
+        let fault = tag_fault(
+            &context,
+            &mut learned.table,
+            &mut learned.known,
+            bodies.as_slice(),
+            attrs,
+        )?;
+        learned.lost = false;
+        self.progress = progress;
+        Ok(fault)
     }
 }

@@ -1,6 +1,7 @@
 -- What may come next behind events.
-use Rattle.std.specs.Prelude.{⊤, ℕ, List}
+use Rattle.std.specs.Prelude.{⊤, ℕ, List, Contains, Option}
 use Rattle.rng_model.specs.documents.PyxTrees.{Event}
+use Rattle.rng_model.specs.matching.Document.{Attribute, Item}
 use Rattle.rng_model.specs.matching.GrammarMatching.{Reading}
 use Rattle.rng_model.specs.names.Names.{Name}
 use Rattle.rng_model.specs.simple.Tree.{Simple}
@@ -8,8 +9,11 @@ use Rattle.rng_deriv_laws.specs.plain.Events.{kinds}
 use Rattle.rng_deriv_laws.specs.plain.LevelEvents.{LevelMatcher, SettlesLevels, StandsFor}
 use Rattle.rng_deriv_laws.specs.plain.LevelStates.{LevelState}
 use Rattle.rng_deriv_laws.specs.plain.Outcomes.{FailsAt}
+use Rattle.rng_deriv_laws.specs.plain.Taking.{Takes}
 use Rattle.rng_expected.specs.Expectations.{IsExpected, Next}
-use Rattle.rng_expected.specs.Tags.{IsTag, Tag}
+use Rattle.rng_expected.specs.Tags.{AreBodies, IsTag, Tag}
+use Rattle.rng_reasons.specs.TagFaults.{IsTagFault}
+use Rattle.rng_reasons.specs.declared.tag_faults.TagFault.{TagFault}
 use Rattle.rng_deriv_events.specs.declared.progress.Progress.{Progress}
 use Rattle.rng_deriv_events.specs.declared.progress.Progress.TheVariants as progress
 
@@ -35,3 +39,18 @@ MayFollow g p next es = HaveLeft g (λ now. IsExpected g.grammar now next) p es
 -- this is what the tag of a start of this name may have next
 abbrev pub MayHave : Reading → Progress → Name → Tag → List Event → Type 0
 MayHave g p q tag es = HaveLeft g (λ now. IsTag g now q tag) p es
+
+-- one of these patterns takes the attributes and the items
+abbrev pub OneTakes : Reading → List (Simple ℕ) → List Attribute → List Item → Type 0
+OneTakes g ps xs ns = (p : Simple ℕ) × Contains ps p × Takes g p xs ns
+
+-- This is why a start tag of this name with these attributes leaves nothing of the bodies of the elements that it may begin
+-- (RELAX NG Specification, sections 6.2.7 and 6.2.8). What is left is told by patterns among these trees.
+pub record IsTagFaultOf (g : Reading) (trees now : List (Simple ℕ)) (q : Name) (xs : List Attribute) (fault : Option TagFault) : Type 0 where
+  pub bodies : List (Simple ℕ)
+  pub are : AreBodies g now q bodies
+  pub is : IsTagFault (OneTakes g bodies) g trees xs fault
+
+-- this is why, by what is left
+abbrev pub HasTagFault : Reading → Progress → List (Simple ℕ) → Name → List Attribute → Option TagFault → List Event → Type 0
+HasTagFault g p trees q xs fault es = HaveLeft g (λ now. IsTagFaultOf g trees now q xs fault) p es

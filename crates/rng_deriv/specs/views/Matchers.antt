@@ -1,6 +1,7 @@
 -- A matcher, as its callers see it.
 use Rattle.std.specs.Prelude.{◌≡◌, ℕ, List, ◌++◌}
 use Rattle.rng_model.specs.simple.Table.{Table}
+use Rattle.rng_model.specs.simple.Tree.{Simple}
 use Rattle.rng_model.specs.documents.PyxTrees.{Event}
 use Rattle.rng_model.specs.matching.GrammarMatching.{Reading, reading_of}
 use Rattle.rng_deriv_table.specs.views.Node.{Node}
@@ -24,9 +25,13 @@ matching_of m = record { grammar = m.0.0.grammar; patterns = m.0.1; progress = m
 abbrev pub judges_by : Matching → Reading
 judges_by m = reading_of m.grammar
 
+-- the patterns, as trees
+abbrev pub trees_in : Matching → List (Simple ℕ)
+trees_in m = trees m.grammar m.patterns
+
 -- what is known represents these events
 abbrev pub Knows : Matching → List Event → Type 0
-Knows m es = IsKnown (judges_by m) (trees m.grammar m.patterns) m.progress es
+Knows m es = IsKnown (judges_by m) (trees_in m) m.progress es
 
 -- no continuation after this line is valid
 abbrev pub HasFailedAt : Matching → ℕ → Type 0
