@@ -137,8 +137,8 @@ pub fn take_input<D: Derivatives>(
 
 impl Progress {
     /// Returns whether an alternative that is left contains a data, a value or a list, so that it tests what a string says.
-    /// Then a string that is not blank leaves the same as each other one. False once nothing is left. True after a call
-    /// that ran out of memory. Allocates nothing.
+    /// If none does, it only matters whether a string is blank. False once nothing is left. True after a call that ran out
+    /// of memory. Allocates nothing.
     pub fn tests_strings(&self) -> bool
         ensures { result ≡ tests_strings self.now }
     {

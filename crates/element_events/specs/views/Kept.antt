@@ -60,7 +60,7 @@ pub record IsWhole (passed : Option Bool) (kept whole : plain.State) : Type 0 wh
   -- a text is kept whole or not at all
   pub alone : IfSome passed (λ _. kept.text ≡ [])
 
--- A text came, and what is kept of the state with its text is so now. Nothing was handed out.
+-- A text came: what is kept of the state after it, if the call was taken. Nothing was handed out.
 abbrev pub TakesText : Result Unit EventFault → Event → Option Bool → plain.State → Option Bool → plain.State → Type 0
 TakesText (Ok x) c passed old after_passed new = IsGood c.kind × (is_misplaced c.kind old.depth old.root ≡ false)
     × ((t : plain.State) → IsWhole passed old t → IsWhole after_passed new (after c.kind t))
