@@ -1,5 +1,5 @@
 // The checker of calls.
-ghost use Rattle.std.specs.Prelude.{◌≡◌, ℕ, [], List, OnOk, IfErr, IfSome, IfNone, IsErrOf, Some, None, Err, true, unwrap_or};
+ghost use Rattle.std.specs.Prelude.{◌≡◌, ℕ, [], List, OnOk, IfErr, IfSome, IfNone, IsErrOf, Some, None, Err, false, length, true, unwrap_or};
 ghost use Rattle.rng_model.specs.documents.EventViews.{Hands};
 ghost use Rattle.rng_model.specs.documents.PyxTrees.{Event, a_string, an_end};
 ghost use Rattle.rng_model.specs.documents.Telling.{BeginsDocument};
@@ -44,6 +44,7 @@ impl ElementEvents {
     pub fn new(alloc: Global) -> Self
         ensures stands { Stands result [] [] }
         ensures passed { result.passed ≡ None }
+        ensures held { result.state.text ≡ [] }
         ensures fault { result.fault ≡ None }
     {
         ElementEvents {
@@ -71,6 +72,7 @@ impl ElementEvents {
         ensures begins { OnOk result ((calls sent : List Event) → Stands self.new calls sent → BeginsDocument calls sent) }
         ensures fault { IfErr result (λ f. self.new.fault ≡ Some f) }
         ensures passed { OnOk result (self.new.passed ≡ None) }
+        ensures held { OnOk result (self.new.state.text ≡ []) }
         ensures working { OnOk result (self.new.fault ≡ None) }
         ensures sticky { IfSome self.old.fault (λ f. (result ≡ Err f) × (self.new ≡ self.old)) }
     {
@@ -108,6 +110,7 @@ impl ElementEvents {
     /// Fails as `text` does. Costs one pass over the text. Allocates nothing, unless it is behind a text that is kept.
     pub fn pass_text(&mut self, text: &str) -> Result<(), EventFault>
         ensures stands { (place : ℕ) → UnlessOutOfMemory result (Adds self.old self.new (call place (a_string text.now))) }
+        ensures held { OnOk result (self.old.state.text ≡ [] → self.new.state.text ≡ []) }
         ensures begins { OnOk result ((calls sent : List Event) → Stands self.new calls sent → BeginsDocument calls sent) }
         ensures fault { IfErr result (λ f. self.new.fault ≡ Some f) }
         ensures working { OnOk result (self.new.fault ≡ None) }
@@ -124,10 +127,19 @@ impl ElementEvents {
         self.state.passed()
     }
 
+    /// Returns how many bytes are held of the text behind the last start or end. They grow with the document. None are held
+    /// of a text that was passed over. Allocates nothing.
+    pub fn held(&self) -> usize
+        ensures { result ≡ length self.now.state.text }
+    {
+        self.state.held()
+    }
+
     /// Takes a text, and keeps it or passes over it.
     fn take_text(&mut self, text: &str, keeps: bool) -> Result<(), EventFault>
         ensures stands { (place : ℕ) → UnlessOutOfMemory result (Adds self.old self.new (call place (a_string text.now))) }
         ensures kept { keeps ≡ true → self.old.passed ≡ None → self.new.passed ≡ None }
+        ensures held { OnOk result (keeps ≡ false → self.old.state.text ≡ [] → self.new.state.text ≡ []) }
         ensures begins { OnOk result ((calls sent : List Event) → Stands self.new calls sent → BeginsDocument calls sent) }
         ensures fault { IfErr result (λ f. self.new.fault ≡ Some f) }
         ensures working { OnOk result (self.new.fault ≡ None) }
@@ -155,6 +167,7 @@ impl ElementEvents {
         ensures begins { OnOk result ((calls sent : List Event) → Stands self.new calls sent → BeginsDocument calls sent) }
         ensures fault { IfErr result (λ f. self.new.fault ≡ Some f) }
         ensures passed { OnOk result (self.new.passed ≡ None) }
+        ensures held { OnOk result (self.new.state.text ≡ []) }
         ensures working { OnOk result (self.new.fault ≡ None) }
         ensures sticky { IfSome self.old.fault (λ f. (result ≡ Err f) × (self.new ≡ self.old)) }
     {

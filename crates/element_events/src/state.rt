@@ -1,5 +1,5 @@
 // Calls one by one.
-ghost use Rattle.std.specs.Prelude.{◌≡◌, ◌↔◌, ◌&&◌, ◌==◌, ℕ, [], ◌∷◌, IfOk, None, OnOk, true};
+ghost use Rattle.std.specs.Prelude.{◌≡◌, ◌↔◌, ◌&&◌, ◌==◌, ℕ, [], ◌∷◌, IfOk, None, OnOk, false, length, true};
 ghost use Rattle.rng_model.specs.documents.EventViews.{Hands};
 ghost use Rattle.rng_model.specs.documents.PyxTrees.{a_string, an_end};
 ghost use Rattle.rng_model.specs.documents.Telling.{IsGood, string_at};
@@ -59,6 +59,13 @@ impl State {
         ensures { result ≡ self.now.passed }
     {
         self.passed
+    }
+
+    /// Returns how many bytes of the text are kept.
+    pub fn held(&self) -> usize
+        ensures { result ≡ length (state_of self.now).text }
+    {
+        self.text.len()
     }
 
     /// Hands out the text, unless it is empty, as a string with this place.
@@ -163,6 +170,7 @@ impl State {
     pub fn text(&mut self, text: &str, keeps: bool) -> Result<(), EventFault>
         ensures taken { (place : ℕ) → TakesText result (call place (a_string text.now)) self.old.passed (state_of self.old) self.new.passed (state_of self.new) }
         ensures kept { keeps ≡ true → self.old.passed ≡ None → self.new.passed ≡ None }
+        ensures held { OnOk result (keeps ≡ false → (state_of self.old).text ≡ [] → (state_of self.new).text ≡ []) }
     {
         if !are_xml_chars(text) {
             return Err(EventFault::NotWellFormed);
