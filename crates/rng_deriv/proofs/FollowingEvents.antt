@@ -9,17 +9,19 @@ use Rattle.rng_deriv_table.specs.views.Node.{Node}
 use Rattle.rng_deriv_table.specs.views.Trees.{trees, tree_of}
 use Rattle.rng_deriv_table.specs.declared.pattern.PatternNumber.{PatternNumber}
 use Rattle.rng_deriv_events.specs.views.Innermost.{innermost_of}
-use Rattle.rng_deriv_events.specs.views.LevelsLeft.{LevelLeft}
+use Rattle.rng_deriv_events.specs.views.LevelsLeft.{LevelLeft, level_left}
 use Rattle.rng_deriv_events.specs.views.Numbers as numbers
 use Rattle.rng_deriv_events.specs.views.Numbers.{IsInside}
-use Rattle.rng_deriv_events.specs.views.Positions.{IsLost, LeadTo, LeadUp}
+use Rattle.rng_deriv_events.specs.views.Positions.{IsLeftInside, IsLost, LeadTo, LeadUp}
+use Rattle.rng_deriv_events.specs.declared.innermost.Innermost.{Innermost}
 use Rattle.rng_deriv_events.specs.declared.progress.Progress.{Progress}
 use Rattle.rng_deriv_events.specs.declared.progress.Progress.TheVariants as progress
 use Rattle.rng_deriv_events.proofs.MarkedLevels.{innermost_inside, innermost_leads}
+use Rattle.rng_reasons.specs.Reasons.{Alternatives}
 use Rattle.rng_deriv.specs.views.Followers.{HaveLeft, LeaveSuch}
 use Rattle.rng_deriv.specs.views.Matchers.{IsStateBy, Knows, matching_in}
 use Rattle.rng_deriv.specs.views.Serving.{nodes_of, nodes_unless}
-use Rattle.rng_deriv.specs.views.Alternatives.{unless_lost}
+use Rattle.rng_deriv.specs.views.Alternatives.{alternatives_at, numbers_at, unless_lost}
 use Rattle.rng_deriv.specs.declared.matcher_state.MatcherState.{MatcherState}
 use Rattle.rng_deriv.proofs.ServedTables.{all_below_there, none_there}
 
@@ -43,15 +45,32 @@ left_trees t false ns now all = refl
 
 -- ---- what is left
 
-module _ (g : Reading) (trees : List (Simple ℕ)) (l : LevelLeft) (AreSo : List (Simple ℕ) → Type 0)
-    (are_so : AreSo (map (numbers.tree_of trees) l.now)) where
+-- what the code returns of it
+abbrev pub left_in : Innermost → LevelLeft
+left_in l = level_left l.alternatives.now l.in_place.now l.has_begun l.has_text l.is_open
+
+abbrev pub left_at : Bool → LevelLeft → List PatternNumber
+left_at true l = l.in_place
+left_at false l = l.now
+
+pub numbers_left : (in_place : Bool) (l : Innermost) → numbers_at in_place l ≡ left_at in_place (left_in l)
+numbers_left true l = refl
+numbers_left false l = refl
+
+abbrev pub alternatives : List (Simple ℕ) → List (Simple ℕ) → Bool → Alternatives
+alternatives behind in_place has_text = record { behind = behind; in_place = in_place; has_text = has_text }
+
+module _ (g : Reading) (trees : List (Simple ℕ)) (l : LevelLeft) (AreSo : Alternatives → Type 0)
+    (are_so : AreSo (alternatives (map (numbers.tree_of trees) l.now) (map (numbers.tree_of trees) l.in_place) l.has_text)) where
   leave_such : (es : List Event) → LeadTo g trees l es → LeaveSuch g AreSo es
   leave_such es lead = record {
     matcher = lead.matcher;
     settled = lead.settled;
     stands = lead.stands;
     settles = lead.settles;
-    are_so = subst AreSo (sym lead.now) are_so;
+    are_so = subst (λ b. AreSo (alternatives lead.settled.now lead.matcher.state.now b)) lead.has_text
+        (subst (λ ps. AreSo (alternatives lead.settled.now ps l.has_text)) (sym lead.in_place)
+        (subst (λ ps. AreSo (alternatives ps (map (numbers.tree_of trees) l.in_place) l.has_text)) (sym lead.now) are_so));
   }
 
   have_left : (p : Progress) (es : List Event) → LeadUp g trees p l es → HaveLeft g AreSo p es
@@ -60,21 +79,40 @@ module _ (g : Reading) (trees : List (Simple ℕ)) (l : LevelLeft) (AreSo : List
   have_left progress.Lost es lead = tt
 
 module _ (t : Table) (s : MatcherState) (state : IsStateBy t s) (l : LevelLeft) (is : innermost_of s.progress ≡ Some l) where
-  inside : All (IsInside (trees t (nodes_of s.learned.value))) l.now
+  inside : IsLeftInside (trees t (nodes_of s.learned.value)) l
   inside = innermost_inside (reading_of t) s.learned.value.keys (trees t (nodes_of s.learned.value)) s.progress l is state.inside
 
   pub alternatives_there : All (λ n. n.0 < length s.learned.value.table) (unless_lost s.learned.value.lost l.now)
-  alternatives_there = left_below t s.learned.value.lost s.learned.value.table l.now inside
+  alternatives_there = left_below t s.learned.value.lost s.learned.value.table l.now inside.now
+
+  pub in_place_there : All (λ n. n.0 < length s.learned.value.table) (unless_lost s.learned.value.lost l.in_place)
+  in_place_there = left_below t s.learned.value.lost s.learned.value.table l.in_place inside.in_place
+
+  abbrev in_table : List PatternNumber → List (Simple ℕ)
+  in_table ns = map (λ (n : PatternNumber). tree_of t s.learned.value.table n.0) (unless_lost s.learned.value.lost ns)
 
   -- what is so of the alternatives in the table is so of what the events leave
-  pub is_left : (AreSo : List (Simple ℕ) → Type 0)
-      → AreSo (map (λ (n : PatternNumber). tree_of t s.learned.value.table n.0) (unless_lost s.learned.value.lost l.now))
+  pub is_left : (AreSo : Alternatives → Type 0) → AreSo (alternatives (in_table l.now) (in_table l.in_place) l.has_text)
       → (es : List Event) → Knows (matching_in t s) es → HaveLeft (reading_of t) AreSo s.progress es
   is_left AreSo are_so es known =
       let at = trees t (nodes_of s.learned.value) in
+      let lost = s.learned.value.lost in
+      let table = s.learned.value.table in
       have_left (reading_of t) at l AreSo
-      (subst AreSo (left_trees t s.learned.value.lost s.learned.value.table l.now inside) are_so) s.progress es
+      (subst (λ ps. AreSo (alternatives (map (numbers.tree_of at) l.now) ps l.has_text)) (left_trees t lost table l.in_place inside.in_place)
+      (subst (λ ps. AreSo (alternatives ps (in_table l.in_place) l.has_text)) (left_trees t lost table l.now inside.now) are_so)) s.progress es
       (innermost_leads (reading_of t) at s.progress l es is known)
+
+  -- ---- the alternatives behind the string since the last tag, or in its place
+
+  pub there_at : (in_place : Bool) → All (λ n. n.0 < length s.learned.value.table) (unless_lost s.learned.value.lost (left_at in_place l))
+  there_at true = in_place_there
+  there_at false = alternatives_there
+
+  pub is_left_at : (in_place : Bool) (AreSo : List (Simple ℕ) → Type 0) → AreSo (in_table (left_at in_place l)) → (es : List Event)
+      → Knows (matching_in t s) es → HaveLeft (reading_of t) (λ left. AreSo (alternatives_at in_place left)) s.progress es
+  is_left_at true AreSo are_so = is_left (λ left. AreSo left.in_place) are_so
+  is_left_at false AreSo are_so = is_left (λ left. AreSo left.behind) are_so
 
 -- something is left unless a call ran out of memory
 pub none_left : (p : Progress) → innermost_of p ≡ None → IsLost p

@@ -23,8 +23,8 @@ use Rattle.rng_deriv_events.specs.declared.progress.Progress.{Progress}
 use Rattle.rng_deriv_events.specs.declared.progress.Progress.TheVariants as progress
 use Rattle.rng_deriv_events.specs.declared.state.WaysOut.{WaysOut}
 use Rattle.rng_deriv_events.proofs.KeptLevels.{kept_longer}
-use Rattle.rng_deriv_events.proofs.MarkedLevels.{lead_stays}
-use Rattle.rng_deriv_events.proofs.Numbers.{all_inside_stay, trees_stay}
+use Rattle.rng_deriv_events.proofs.MarkedLevels.{lead_stays, left_stays}
+use Rattle.rng_deriv_events.proofs.Numbers.{trees_stay}
 use Rattle.rng_deriv_events.proofs.OpenStates.{position_inside}
 use Rattle.rng_deriv_events.proofs.Positions.{state_stays}
 use Rattle.rng_deriv_events.proofs.StateSteps.{level_stays}
@@ -49,7 +49,7 @@ module _ (g : Reading) (keys : Keys) (old new : List (Simple ℕ)) (longer : Lon
 
   pub progress_grows : (p : Progress) → IsProgressInside g keys old p → IsProgressInside g keys new p
   progress_grows (progress.Going p line) k = position_grows p.value k
-  progress_grows (progress.Failed line left) inside = all_inside_stay old new longer left.alternatives.items inside
+  progress_grows (progress.Failed line left) inside = left_stays old new (left_of left) longer inside
   progress_grows progress.Lost k = tt
 
   held_stays : (now : List PatternNumber) → All (IsInside old) now → (h : Option HeldString) → IsHeldInside old (length now) h → (s : List ℕ)

@@ -7,4 +7,3 @@ mod PatternRenewal
 mod FollowingEvents
 mod BoxedLearning
 mod GrownTables
-mod TagFaults

@@ -119,6 +119,7 @@ impl<'a> Matcher<'a> {
     pub fn may_end(&mut self) -> Result<bool, OutOfMemory>
         ensures ends { IfOk result (λ told. (es : List trees.Event) → Knows self.old es → TellsEnd (judges_by self.old) self.old.progress told es) }
         ensures same { OnOk result (HasGoneOn self.old self.new []) }
+        ensures tests { OnOk result (tests_strings self.new.progress ≡ tests_strings self.old.progress) }
         ensures lost { OnErr result (HasRunOut self.new) }
         ensures again { HasRunOut self.old → IsErr result }
     {

@@ -1,24 +1,25 @@
 // What a matcher keeps, without its grammar.
 ghost use Rattle.std.specs.Prelude.{◌≡◌, ◌↔◌, List, IfOk, IfSome, IsErr, None, OnErr, OnOk, map};
-ghost use Rattle.rng_model.specs.simple.Table.{Table};
+ghost use Rattle.rng_model.specs.simple.Table.{Table, grammar_of};
 ghost use Rattle.rng_model.specs.documents.EventViews.{attribute_of};
 ghost use Rattle.rng_model.specs.documents.PyxTrees as trees;
 ghost use Rattle.rng_model.specs.matching.GrammarMatching.{reading_of};
 ghost use Rattle.rng_model.specs.names.NameViews.{name_of};
+ghost use Rattle.rng_expected.specs.Expectations.{IsExpected};
 ghost use Rattle.rng_expected.specs.views.Next.{next_of, tag_of};
 ghost use Rattle.rng_deriv_events.specs.views.Inputs.{tests_strings};
 ghost use Rattle.rng_deriv_events.specs.views.Positions.{failed_line};
-ghost use Rattle.rng_deriv.specs.views.Alternatives.{unless_lost};
-ghost use Rattle.rng_deriv.specs.views.Followers.{HasTagFault, MayFollow, MayHave};
+ghost use Rattle.rng_deriv.specs.views.Alternatives.{alternatives_at, left_here, numbers_at, unless_lost};
+ghost use Rattle.rng_deriv.specs.views.Followers.{HasEndReason, HasStartReason, HaveLeft, MayFollow, MayHave, MayReplace};
 ghost use Rattle.rng_deriv.specs.views.Matchers.{HasFailedAt, HasRunOut, IsStateBy, Knows, matching_in, trees_in};
 
 use crate::learned::Learned;
-use rng_deriv_events::Progress;
+use rng_deriv_events::{Innermost, Progress};
 use rng_deriv_table::PatternNumber;
 use rng_deriv_ways::Context;
-use rng_expected::{Expected, ExpectedTag, expected, expected_bodies, expected_tag};
-use rng_model::{Attr, Name, OutOfMemory, SimpleGrammar};
-use rng_reasons::{TagFault, tag_fault};
+use rng_expected::{Expected, ExpectedTag, expected, expected_tag};
+use rng_model::{Name, OutOfMemory, SimpleGrammar};
+use rng_reasons::{LeftHere, Reason, StartTag, end_reason, start_reason};
 use std::alloc::Global;
 use std::mem;
 
@@ -40,6 +41,27 @@ fn unless_lost(lost: bool, alternatives: &[PatternNumber]) -> &[PatternNumber]
         return &[];
     }
     alternatives
+}
+
+/// Returns the alternatives behind the string since the last tag, or in its place.
+fn numbers_at<'a>(in_place: bool, left: Innermost<'a>) -> &'a [PatternNumber]
+    ensures { result.now ≡ numbers_at in_place left.entry }
+{
+    if in_place {
+        return left.in_place;
+    }
+    left.alternatives
+}
+
+/// Returns the same alternatives as `rng_reasons` takes them.
+fn left_here<'a>(left: Innermost<'a>) -> LeftHere<'a>
+    ensures { result ≡ left_here left.entry }
+{
+    LeftHere {
+        behind: left.alternatives,
+        in_place: left.in_place,
+        has_text: left.has_text,
+    }
 }
 
 impl MatcherState {
@@ -82,11 +104,43 @@ impl MatcherState {
             → MayFollow (reading_of grammar.now) self.now.progress (next_of e) es)) }
         ensures none { IfOk result (λ o. (o ≡ None) ↔ HasRunOut (matching_in grammar.now self.now)) }
     {
+        self.expected_at(alloc, grammar, false)
+    }
+
+    /// Returns what may come in place of the string since the last tag, or could have come in place of the one before the
+    /// event after which no continuation is valid. If there is none, or it is blank, it is what `expected` returns.
+    ///
+    /// Returns `None`, fails and costs as `expected` does. RELAX NG Specification, sections 6.2 and 6.2.7.
+    pub fn expected_in_place<'g>(
+        &self,
+        alloc: Global,
+        grammar: &'g SimpleGrammar,
+    ) -> Result<Option<Expected<'g>>, OutOfMemory>
+        requires { IsStateBy grammar.now self.now }
+        ensures expected { IfOk result (λ o. IfSome o (λ e. (es : List trees.Event) → Knows (matching_in grammar.now self.now) es
+            → MayReplace (reading_of grammar.now) self.now.progress (next_of e) es)) }
+        ensures none { IfOk result (λ o. (o ≡ None) ↔ HasRunOut (matching_in grammar.now self.now)) }
+    {
+        self.expected_at(alloc, grammar, true)
+    }
+
+    /// Returns what may come behind the string since the last tag, or in its place.
+    fn expected_at<'g>(
+        &self,
+        alloc: Global,
+        grammar: &'g SimpleGrammar,
+        in_place: bool,
+    ) -> Result<Option<Expected<'g>>, OutOfMemory>
+        requires { IsStateBy grammar.now self.now }
+        ensures expected { IfOk result (λ o. IfSome o (λ e. (es : List trees.Event) → Knows (matching_in grammar.now self.now) es
+            → HaveLeft (reading_of grammar.now) (λ left. IsExpected (grammar_of grammar.now) (alternatives_at in_place left) (next_of e)) self.now.progress es)) }
+        ensures none { IfOk result (λ o. (o ≡ None) ↔ HasRunOut (matching_in grammar.now self.now)) }
+    {
         let Some(left) = self.progress.innermost() else {
             return Ok(None);
         };
         let learned = &*self.learned;
-        let alternatives = unless_lost(learned.lost, left.alternatives);
+        let alternatives = unless_lost(learned.lost, numbers_at(in_place, left));
         let expected = expected(alloc, grammar, &learned.table, alternatives)?;
         Ok(Some(expected))
     }
@@ -125,28 +179,26 @@ impl MatcherState {
         Ok(Some(tag))
     }
 
-    /// Returns why a start tag of this name with these attributes leaves nothing of what may come next, or of what could have
-    /// come before the event after which no continuation is valid. Returns `None` if it leaves something.
+    /// Returns why a start tag leaves nothing of what may come next, or of what could have come before the event after which
+    /// no continuation is valid. Returns `None` if it leaves something.
     ///
-    /// It is stated on what is left of the pattern (`TagFault`). After a string it is by what may come behind that string; a
-    /// blank string counts as nothing. What is known of the document stays, in a table that may have grown. RELAX NG
-    /// Specification, sections 6.2.7 and 6.2.8. Fails only when out of memory, in this call or in an earlier one; from then
-    /// on each call fails. Costs what `expected_bodies` and the `tag_fault` of `rng_reasons` cost.
-    pub fn tag_fault(
+    /// It is stated on what is left of the pattern (`Reason`). What is known of the document stays, in a table that may have
+    /// grown. RELAX NG Specification, sections 6.2.7 and 6.2.8. Fails only when out of memory, in this call or in an earlier
+    /// one; from then on each call fails. Costs what `start_reason` of `rng_reasons` costs.
+    pub fn start_reason(
         &mut self,
         alloc: Global,
         grammar: &SimpleGrammar,
-        name: &Name,
-        attrs: &[Attr],
-    ) -> Result<Option<TagFault>, OutOfMemory>
+        tag: &StartTag<'_>,
+    ) -> Result<Option<Reason>, OutOfMemory>
         requires { IsStateBy grammar.now self.old }
         ensures state { IsStateBy grammar.now self.new }
         ensures knows { OnOk result ((es : List trees.Event) → Knows (matching_in grammar.now self.old) es
             → Knows (matching_in grammar.now self.new) es) }
         ensures same { OnOk result (self.new.progress ≡ self.old.progress) }
-        ensures fault { IfOk result (λ fault. (es : List trees.Event) → Knows (matching_in grammar.now self.old) es
-            → HasTagFault (reading_of grammar.now) self.old.progress (trees_in (matching_in grammar.now self.new))
-            (name_of name.now) (map attribute_of attrs.now) fault es) }
+        ensures reason { IfOk result (λ reason. (es : List trees.Event) → Knows (matching_in grammar.now self.old) es
+            → HasStartReason (reading_of grammar.now) self.old.progress (trees_in (matching_in grammar.now self.new))
+            (name_of tag.now.name.now) (map attribute_of tag.now.attrs.now) reason es) }
         ensures lost { OnErr result (HasRunOut (matching_in grammar.now self.new)) }
         ensures again { HasRunOut (matching_in grammar.now self.old) → IsErr result }
     {
@@ -164,17 +216,38 @@ impl MatcherState {
             keys: &learned.keys,
             numbers: learned.numbers.as_slice(),
         };
-        let bodies = expected_bodies(&context, &learned.table, left.alternatives, name)?;
+        let left = left_here(left);
         learned.lost = true;
-        let fault = tag_fault(
-            &context,
-            &mut learned.table,
-            &mut learned.known,
-            bodies.as_slice(),
-            attrs,
-        )?;
+        let reason = start_reason(&context, &mut learned.table, &mut learned.known, &left, tag)?;
         learned.lost = false;
         self.progress = progress;
-        Ok(fault)
+        Ok(reason)
+    }
+
+    /// Returns why an end tag leaves nothing, where it may not come: what `start_reason` does of a start tag.
+    ///
+    /// RELAX NG Specification, section 6.2.7. Fails only when out of memory, in this call or in an earlier one. Costs what
+    /// `end_reason` of `rng_reasons` costs.
+    pub fn end_reason(&self, alloc: Global, grammar: &SimpleGrammar) -> Result<Reason, OutOfMemory>
+        requires { IsStateBy grammar.now self.now }
+        ensures { IfOk result (λ reason. (es : List trees.Event) → Knows (matching_in grammar.now self.now) es
+            → HasEndReason (reading_of grammar.now) self.now.progress reason es) }
+    {
+        let Some(left) = self.progress.innermost() else {
+            return Err(OutOfMemory);
+        };
+        let learned = &*self.learned;
+        if learned.lost {
+            return Err(OutOfMemory);
+        }
+        let context = Context {
+            alloc,
+            grammar,
+            keys: &learned.keys,
+            numbers: learned.numbers.as_slice(),
+        };
+        let left = left_here(left);
+        let reason = end_reason(&context, &learned.table, &left)?;
+        Ok(reason)
     }
 }

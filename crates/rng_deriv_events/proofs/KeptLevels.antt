@@ -15,7 +15,7 @@ use Rattle.rng_deriv_laws.specs.plain.Derivatives.{has_data, is_not_allowed, is_
 use Rattle.rng_deriv_laws.specs.plain.LevelStates.{AreEnded, AreOpened, IsAfterTag, IsAfterText}
 use Rattle.rng_deriv_table.specs.declared.pattern.PatternNumber.{PatternNumber}
 use Rattle.rng_deriv_events.specs.plain.Bits.{bits_of}
-use Rattle.rng_deriv_events.specs.views.LevelTable.{IsEndAt, IsKnownAt, closed_in, ends_in, levels_in, numbers_in, numbers_or_none, sample_in, sample_of}
+use Rattle.rng_deriv_events.specs.views.LevelTable.{IsEndAt, IsKnownAt, closed_in, ends_in, levels_in, numbers_in, numbers_or_none, sample_in, sample_of, tests_in, tests_or_true}
 use Rattle.rng_deriv_events.specs.views.LevelTable.{sampled_in, steps_in}
 use Rattle.rng_deriv_events.specs.declared.level_table.level.Level.{Level}
 use Rattle.rng_deriv_events.specs.declared.level_table.level.LevelNumber.{LevelNumber}
@@ -57,6 +57,9 @@ all_at P (x ∷ xs) (suc i) all lt = all_at P xs i (All-tail P x xs all) (omega 
 
 pub numbers_grow : (old new : List Level) (n : ℕ) → Grows old new → n < length old → numbers_in new n ≡ numbers_in old n
 numbers_grow old new n g lt = ap numbers_or_none (get_grows old new n g lt)
+
+pub tests_grow : (old new : List Level) (n : ℕ) → Grows old new → n < length old → tests_in new n ≡ tests_in old n
+tests_grow old new n g lt = ap tests_or_true (get_grows old new n g lt)
 
 pub sample_grows : (old new : List Level) (n : ℕ) → Grows old new → n < length old → sample_in new n ≡ sample_in old n
 sample_grows old new n g lt = ap sample_of (get_grows old new n g lt)

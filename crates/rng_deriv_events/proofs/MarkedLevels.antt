@@ -1,5 +1,5 @@
 -- What is left at a mark, and the events that lead to it.
-use Rattle.std.proofs.Common.{◌≡◌, ◌∙◌, ℕ, ◌<◌, List, [], length, map, All, ap, subst, refl, sym, Bool, true, false, Option, Some, None, is_some}
+use Rattle.std.proofs.Common.{◌≡◌, ◌∙◌, ℕ, ◌<◌, List, [], length, map, All, ap, subst, refl, sym, Bool, true, false, not, Option, Some, None}
 use Rattle.std.proofs.Common.{if◌then◌else◌}
 use Rattle.std.proofs.lemmas.Option.{same_Some}
 use Rattle.std.specs.List.{AllZip}
@@ -14,10 +14,10 @@ use Rattle.rng_deriv_table.specs.declared.pattern.PatternNumber.{PatternNumber}
 use Rattle.rng_deriv_events.specs.views.Innermost.{innermost_of}
 use Rattle.rng_deriv_events.specs.views.KeptLevels.{Grows}
 use Rattle.rng_deriv_events.specs.views.LevelTable.{levels_in, numbers_in}
-use Rattle.rng_deriv_events.specs.views.LevelsLeft.{LevelLeft, left_of, level_in, level_left, mark_of, marked, settled_level}
+use Rattle.rng_deriv_events.specs.views.LevelsLeft.{LevelLeft, has_text, left_of, level_in, level_left, mark_of, marked, settled_level}
 use Rattle.rng_deriv_events.specs.views.Numbers.{IsInside, Longer, tree_of}
 use Rattle.rng_deriv_events.specs.views.OpenPositions.{IsHeldKept, IsPositionKept, open_position, open_state, open_string}
-use Rattle.rng_deriv_events.specs.views.Positions.{FailsWith, HasCome, IsKnown, IsProgressInside, LeadTo, LeadUp}
+use Rattle.rng_deriv_events.specs.views.Positions.{FailsWith, HasCome, IsKnown, IsLeftInside, IsProgressInside, LeadTo, LeadUp}
 use Rattle.rng_deriv_events.specs.views.Strings.{IsHeld}
 use Rattle.rng_deriv_events.specs.declared.held.Held.{Held}
 use Rattle.rng_deriv_events.specs.declared.left.Left.{Left}
@@ -31,27 +31,35 @@ use Rattle.rng_deriv_events.specs.declared.progress.Progress.TheVariants as prog
 use Rattle.rng_deriv_events.proofs.KeptLevels.{numbers_grow, numbers_inside}
 use Rattle.rng_deriv_events.proofs.Numbers.{all_inside_stay, longer_through, trees_stay}
 
-pub marked_grows : (old new : List Level) (m : Mark) → Grows old new → (settled_level m.level m.string).0 < length old → marked new m ≡ marked old m
-marked_grows old new m g lt =
-    ap (λ ns. level_left ns m.has_begun (is_some m.string) m.is_open) (numbers_grow old new (settled_level m.level m.string).0 g lt)
+pub marked_grows : (old new : List Level) (m : Mark) → Grows old new → (settled_level m.level m.string).0 < length old → m.level.0 < length old
+    → marked new m ≡ marked old m
+marked_grows old new m g behind there =
+    ap (λ ns. level_left ns (numbers_in new m.level.0) m.has_begun (has_text m.string) m.is_open) (numbers_grow old new (settled_level m.level m.string).0 g behind)
+    ∙ ap (λ ns. level_left (numbers_in old (settled_level m.level m.string).0) ns m.has_begun (has_text m.string) m.is_open) (numbers_grow old new m.level.0 g there)
+
+-- what is left still has numbers of the table, when patterns are added
+pub left_stays : (old new : List (Simple ℕ)) (l : LevelLeft) → Longer old new → IsLeftInside old l → IsLeftInside new l
+left_stays old new l longer inside =
+    record { now = all_inside_stay old new longer l.now inside.now; in_place = all_inside_stay old new longer l.in_place inside.in_place }
 
 -- what the events lead to stays so, when patterns are added
-pub lead_stays : (g : Reading) (old new : List (Simple ℕ)) (l : LevelLeft) (es : List Event) → Longer old new → All (IsInside old) l.now
+pub lead_stays : (g : Reading) (old new : List (Simple ℕ)) (l : LevelLeft) (es : List Event) → Longer old new → IsLeftInside old l
     → LeadTo g old l es → LeadTo g new l es
 lead_stays g old new l es longer inside t = record {
   matcher = t.matcher;
   stands = t.stands;
   settled = t.settled;
   settles = t.settles;
-  now = t.now ∙ sym (trees_stay old new longer l.now inside);
+  now = t.now ∙ sym (trees_stay old new longer l.now inside.now);
+  in_place = t.in_place ∙ sym (trees_stay old new longer l.in_place inside.in_place);
   has_begun = t.has_begun;
-  no_string = t.no_string;
+  has_text = t.has_text;
 }
 
-no_string : (g : Reading) (trees : List (Simple ℕ)) (now : List PatternNumber) (t : LevelTable) (string : Option Held) (held : List ℕ)
-    → IsHeld g trees now (open_string t string) held → is_some string ≡ false → held ≡ []
-no_string g trees now t None held is none = is
-no_string g trees now t (Some h) held is none = absurd (cc)
+text_is : (g : Reading) (trees : List (Simple ℕ)) (now : List PatternNumber) (t : LevelTable) (string : Option Held) (held : List ℕ)
+    → IsHeld g trees now (open_string t string) held → has_text string ≡ not (is_blank held)
+text_is g trees now t None held is = sym (ap (λ s. not (is_blank s)) is)
+text_is g trees now t (Some h) held is = ap not (sym is.0)
 
 -- ---- a held string
 
@@ -99,23 +107,29 @@ come_left g trees p line es come =
       settled = behind.state;
       settles = behind.settles;
       now = behind.now_is;
+      in_place = ap (λ s. s.now) come.position.state;
       has_begun = come.position.has_begun;
-      no_string = no_string g trees (open_state p.state).now p.state.table p.held come.matcher.held come.position.held;
+      has_text = text_is g trees (open_state p.state).now p.state.table p.held come.matcher.held come.position.held;
     }
 
 -- ---- what is left, as far as it is known
 
-left_kept : (g : Reading) (keys : Keys) (trees : List (Simple ℕ)) (p : Position) → IsPositionKept g keys trees p → All (IsInside trees) (level_in p).now
-left_kept g keys trees p k = numbers_inside trees (levels_in p.state.table) (settled_level p.state.now p.held).0 k.state.kept.levels
-    (settled_there p.state.table p.state.now p.held k.state.now k.held)
+left_kept : (g : Reading) (keys : Keys) (trees : List (Simple ℕ)) (p : Position) → IsPositionKept g keys trees p → IsLeftInside trees (level_in p)
+left_kept g keys trees p k =
+    let levels = levels_in p.state.table in
+    record {
+      now = numbers_inside trees levels (settled_level p.state.now p.held).0 k.state.kept.levels
+          (settled_there p.state.table p.state.now p.held k.state.now k.held);
+      in_place = numbers_inside trees levels p.state.now.0 k.state.kept.levels k.state.now;
+    }
 
 -- it has numbers of the table
 pub innermost_inside : (g : Reading) (keys : Keys) (trees : List (Simple ℕ)) (p : Progress) (l : LevelLeft) → innermost_of p ≡ Some l
-    → IsProgressInside g keys trees p → All (IsInside trees) l.now
+    → IsProgressInside g keys trees p → IsLeftInside trees l
 innermost_inside g keys trees (progress.Going p line) l is k =
-    subst (λ (l : LevelLeft). All (IsInside trees) l.now) (same_Some (level_in p.value) l is) (left_kept g keys trees p.value k)
+    subst (IsLeftInside trees) (same_Some (level_in p.value) l is) (left_kept g keys trees p.value k)
 innermost_inside g keys trees (progress.Failed line left) l is inside =
-    subst (λ (l : LevelLeft). All (IsInside trees) l.now) (same_Some (left_of left) l is) inside
+    subst (IsLeftInside trees) (same_Some (left_of left) l is) inside
 innermost_inside g keys trees progress.Lost l is k = absurd (cc)
 
 -- the events lead to it
@@ -136,14 +150,14 @@ module _ (g : Reading) (keys : Keys) (old mid new : List (Simple ℕ)) (p : Posi
   left_is =
       told ∙ ap (marked levels) at
       ∙ marked_grows (levels_in p.state.table) levels (mark_of p) grows (settled_there p.state.table p.state.now p.held kept.state.now kept.held)
+      kept.state.now
 
   longer_all : Longer old new
   longer_all = longer_through old mid new longer more
 
   -- what was left before the step has numbers of the table behind it
-  pub left_inside : All (IsInside new) l.alternatives.items
-  left_inside =
-      all_inside_stay old new longer_all l.alternatives.items (subst (λ (l : LevelLeft). All (IsInside old) l.now) (sym left_is) (left_kept g keys old p kept))
+  pub left_inside : IsLeftInside new (left_of l)
+  left_inside = left_stays old new (left_of l) longer_all (subst (IsLeftInside old) (sym left_is) (left_kept g keys old p kept))
 
   -- and the events before it lead there
   pub left_leads : (line : ℕ) (es : List Event) → HasCome g old (open_position p) line es → LeadTo g new (left_of l) es

@@ -18,6 +18,7 @@ use Rattle.rng_deriv_laws.specs.plain.LevelStates.{EndsNow, EndsWith, IsAfterTex
 use Rattle.rng_deriv_laws.proofs.Levels.States.{beside_first, beside_second, found_at}
 use Rattle.rng_deriv_table.specs.declared.pattern.PatternNumber.{PatternNumber}
 use Rattle.rng_deriv_events.specs.views.Basis.{Basis, HoldsBy, Keeps, reading_by}
+use Rattle.rng_deriv_events.specs.views.Inputs.{tests_at}
 use Rattle.rng_deriv_events.specs.views.KeptLevels.{AddsLevels, Grows, IsLevelKept, ends_by, nullable_in}
 use Rattle.rng_deriv_events.specs.views.LevelRenewal.{IsPositionRenewed}
 use Rattle.rng_deriv_events.specs.views.LevelTable.{levels_in, numbers_in, steps_in}
@@ -37,7 +38,7 @@ use Rattle.rng_deriv_events.specs.declared.level_table.step.StepNumber.{StepNumb
 use Rattle.rng_deriv_events.specs.declared.level_table.table.LevelTable.{LevelTable}
 use Rattle.rng_deriv_events.specs.declared.position.Position.{Position}
 use Rattle.rng_deriv_events.specs.declared.state.WaysOut.{WaysOut}
-use Rattle.rng_deriv_events.proofs.KeptLevels.{below_grows, numbers_grow, numbers_inside, zip_long}
+use Rattle.rng_deriv_events.proofs.KeptLevels.{below_grows, numbers_grow, numbers_inside, tests_grow, zip_long}
 use Rattle.rng_deriv_events.proofs.LevelTests.{ends_not_blank, or_false, tests_long, which_by, which_null}
 use Rattle.rng_deriv_events.proofs.MarkedLevels.{Settled, settled}
 use Rattle.rng_deriv_events.proofs.Numbers.{trees_stay}
@@ -250,6 +251,11 @@ module _ {A E : Type 0} (b d : Basis) (old new : List (Simple ℕ)) (p : Positio
       → OnOk r (IsPositionRenewed old new (open_position p) (open_position (with_table p u)))
   same_ok (Ok x) longer a = position_same (reading_by b) (reading_by d) b.keys d.keys old new longer p u k a.right
   same_ok (Err f) longer a = tt
+
+  -- whether strings are tested stays too
+  pub tests_ok : (r : Result A E) → OnOk r (Keeps (AddsLevels p.state.table) b d new u) → OnOk r (tests_at (with_table p u) ≡ tests_at p)
+  tests_ok (Ok x) a = tests_grow (levels_in p.state.table) (levels_in u) p.state.now.0 a.right.levels k.state.now
+  tests_ok (Err f) a = tt
 
 -- ---- what is told
 

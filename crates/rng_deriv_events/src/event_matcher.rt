@@ -177,6 +177,7 @@ impl<D: Derivatives + Drop> EventMatcher<D> {
         ensures ends { IfOk result (λ told. (events : List trees.Event)
             → IsKnown (reading_by (D.basis self.old.0)) (D.trees self.old.0) self.old.1 events
             → TellsEnd (reading_by (D.basis self.old.0)) self.old.1 told events) }
+        ensures tests { OnOk result (tests_strings self.new.1 ≡ tests_strings self.old.1) }
         ensures failed { (line : ℕ) → IsFailed line self.old.1 → OnOk result (IsFailed line self.new.1) }
         ensures kept { OnOk result (¬ (IsLost self.new.1)) }
         ensures lost { OnErr result (IsLost self.new.1) }

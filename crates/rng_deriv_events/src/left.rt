@@ -4,7 +4,7 @@ ghost use Rattle.rng_deriv_laws.specs.plain.LevelEvents.{LevelMatcher};
 ghost use Rattle.rng_deriv_events.specs.views.Basis.{HoldsBy, Keeps, reading_by};
 ghost use Rattle.rng_deriv_events.specs.views.KeptLevels.{AddsLevels, AreKept};
 ghost use Rattle.rng_deriv_events.specs.views.LevelTable.{levels_in};
-ghost use Rattle.rng_deriv_events.specs.views.LevelsLeft.{is_within, left_of, mark_of, marked, settled_level};
+ghost use Rattle.rng_deriv_events.specs.views.LevelsLeft.{has_text, is_within, left_of, mark_of, marked, settled_level};
 ghost use Rattle.rng_deriv_events.specs.views.Marks.{IsMarkKept, IsMarkOf};
 ghost use Rattle.rng_deriv_events.specs.views.NextEnds.{EndMayCome};
 ghost use Rattle.rng_deriv_events.specs.views.Numbers.{Longer};
@@ -24,10 +24,13 @@ use std::alloc::Global;
 pub struct Left {
     /// The alternatives for what remains, given that no further string comes: one of them takes it.
     pub alternatives: Vec<PatternNumber>,
+    /// The alternatives in place of the string that has come since the last tag. If it is blank, or none has come, they are
+    /// the same.
+    pub in_place: Vec<PatternNumber>,
     /// Whether there is a child element already.
     pub has_begun: bool,
-    /// Whether a string has come since the last tag. If it is blank, it counts as nothing.
-    pub has_string: bool,
+    /// Whether a string that is not blank has come since the last tag.
+    pub has_text: bool,
     /// Whether an element is open.
     pub is_open: bool,
     /// Whether the end tag of the element may come next.
@@ -61,6 +64,17 @@ pub fn settled_level(level: LevelNumber, string: Option<Held>) -> LevelNumber
     match string {
         Some(string) if !string.blank => string.after,
         _ => level,
+    }
+}
+
+/// Returns whether a string that is not blank is held.
+#[inline(always)]
+pub fn has_text(string: Option<Held>) -> bool
+    ensures { result ≡ has_text string }
+{
+    match string {
+        Some(string) => !string.blank,
+        None => false,
     }
 }
 
@@ -125,11 +139,14 @@ impl Mark {
     {
         let mut alternatives = Vec::new(alloc);
         alternatives.extend_from_slice(table.numbers_at(settled_level(self.level, self.string)))?;
+        let mut in_place = Vec::new(alloc);
+        in_place.extend_from_slice(table.numbers_at(self.level))?;
         let may_end = self.may_end(derivatives, alloc, table)?;
         Ok(Left {
             alternatives,
+            in_place,
             has_begun: self.has_begun,
-            has_string: self.string.is_some(),
+            has_text: has_text(self.string),
             is_open: self.is_open,
             may_end,
         })

@@ -3,6 +3,7 @@ ghost use Rattle.std.specs.Prelude.{◌≡◌, ◌↔◌, ℕ, List, IfOk, IsErr
 ghost use Rattle.rng_model.specs.documents.PyxTrees.{Event};
 ghost use Rattle.rng_deriv_laws.specs.plain.LevelEvents.{LevelMatcher};
 ghost use Rattle.rng_deriv_events.specs.views.Basis.{HoldsBy, Keeps, reading_by};
+ghost use Rattle.rng_deriv_events.specs.views.Inputs.{tests_at, tests_strings};
 ghost use Rattle.rng_deriv_events.specs.views.LevelRenewal.{IsPositionRenewed};
 ghost use Rattle.rng_deriv_events.specs.views.NextEnds.{EndMayCome, TellsEnd};
 ghost use Rattle.rng_deriv_events.specs.views.OpenPositions.{IsPositionKept, open_position};
@@ -25,6 +26,7 @@ fn may_end_at<D: Derivatives>(
     ensures keeps { OnOk result (Keeps IsPositionKept (D.basis derivatives.old) (D.basis derivatives.new) (D.trees derivatives.new) position.new.value) }
     ensures same { OnOk result (IsPositionRenewed (D.trees derivatives.old) (D.trees derivatives.new)
         (open_position position.old.value) (open_position position.new.value)) }
+    ensures tests { OnOk result (tests_at position.new.value ≡ tests_at position.old.value) }
     ensures ends { IfOk result (λ told. (m : LevelMatcher)
         → IsPositionOf (reading_by (D.basis derivatives.old)) (D.trees derivatives.old) (open_position position.old.value) m
         → (told ≡ true) ↔ EndMayCome (reading_by (D.basis derivatives.old)) m) }
@@ -47,6 +49,7 @@ pub fn may_end<D: Derivatives>(
         → IsKnown (reading_by (D.basis derivatives.old)) (D.trees derivatives.new) progress.new es) }
     ensures ends { IfOk result (λ told. (es : List Event) → IsKnown (reading_by (D.basis derivatives.old)) (D.trees derivatives.old) progress.old es
         → TellsEnd (reading_by (D.basis derivatives.old)) progress.old told es) }
+    ensures tests { OnOk result (tests_strings progress.new ≡ tests_strings progress.old) }
     ensures failed { (at : ℕ) → IsFailed at progress.old → OnOk result (IsFailed at progress.new) }
     ensures kept { OnOk result (¬ (IsLost progress.new)) }
     ensures again { IsLost progress.old → IsErr result }

@@ -1,3 +1,6 @@
 mod Allowed
 mod NamesInPatterns
 mod LeftPatterns
+mod TagReasons
+mod StayingFaults
+mod ToldReasons

@@ -1,16 +1,19 @@
-//! Why a start tag leaves nothing: which of its attributes is at fault, or that others are missing.
+//! Why a start or an end tag leaves nothing.
 //!
-//! `tag_fault` takes the bodies of the elements that the name of the tag may begin, as numbered patterns, and the
-//! attributes of the tag in their order. It tells the first attribute that nothing takes which is left by those before it,
-//! and whether only its value is at fault. The answer is stated by the rules of matching (RELAX NG Specification, sections
-//! 6.2.7 and 6.2.8), for patterns that obey the restrictions of section 7.
+//! `start_reason` and `end_reason` take the alternatives for what remains, as numbered patterns. They tell whether the name of
+//! the tag is at fault, an attribute, the text before the tag, or that something is missing. `tag_fault` takes the bodies of
+//! the elements that the name of a tag may begin, and its attributes in their order. It tells the first attribute that
+//! nothing takes which is left by those before it, and whether only its value is at fault. The answers are stated by the
+//! rules of matching (RELAX NG Specification, sections 6.2.7 and 6.2.8), for patterns that obey section 7.
 #![tactic(auto)]
 
 ghost use Rattle.rng_reasons.specs.AllowedPatterns.{AllowedTakeSome, BareTakeNoAttribute};
 
 mod named_attributes;
+mod reasons;
 mod tag_faults;
 
+pub use reasons::{LeftHere, Reason, StartTag, end_reason, start_reason};
 pub use tag_faults::{TagFault, tag_fault};
 
 /// States what it means that something is left (RELAX NG Specification, sections 4.20 and 6.2). The function does nothing:

@@ -1,8 +1,9 @@
 -- What a matcher knows between two events.
-use Rattle.std.specs.Prelude.{◌≡◌, ◌⊎◌, ⊤, ℕ, List, [], ◌∷◌, ◌++◌, length, map, All, Bool, false, Box, Option, Some, None}
+use Rattle.std.specs.Prelude.{◌≡◌, ◌⊎◌, ⊤, ℕ, List, [], ◌∷◌, ◌++◌, length, map, All, Bool, false, not, Box, Option, Some, None}
 use Rattle.std.specs.Global.{Global}
 use Rattle.std.specs.List.{Contains}
 use Rattle.rng_names.specs.plain.Keys.{Keys}
+use Rattle.rng_model.specs.datatypes.Texts.{is_blank}
 use Rattle.rng_model.specs.simple.Tree.{Simple}
 use Rattle.rng_model.specs.documents.PyxTrees.{Event, EventKind}
 use Rattle.rng_model.specs.matching.GrammarMatching.{Reading}
@@ -71,8 +72,9 @@ pub record LeadTo (g : Reading) (trees : List (Simple ℕ)) (l : LevelLeft) (es 
   pub settled : LevelState
   pub settles : SettlesLevels g matcher.held matcher.state settled
   pub now : settled.now ≡ map (tree_of trees) l.now
+  pub in_place : matcher.state.now ≡ map (tree_of trees) l.in_place
   pub has_begun : matcher.has_begun ≡ l.has_begun
-  pub no_string : l.has_string ≡ false → matcher.held ≡ []
+  pub has_text : l.has_text ≡ not (is_blank matcher.held)
 
 -- nothing is left after one of the events, at this line; the events before it lead to what was left, and to a place where
 -- the end tag could come next exactly if this is true
@@ -87,10 +89,15 @@ abbrev pub progress_at : Option Left → Box Position Global → ℕ → Progres
 progress_at None p line = progress.Going p line
 progress_at (Some left) p line = progress.Failed line left
 
+-- what is left has numbers of a table
+pub record IsLeftInside (trees : List (Simple ℕ)) (l : LevelLeft) : Type 0 where
+  pub now : All (IsInside trees) l.now
+  pub in_place : All (IsInside trees) l.in_place
+
 -- what is kept is right by the patterns of a table
 abbrev pub IsProgressInside : Reading → Keys → List (Simple ℕ) → Progress → Type 0
 IsProgressInside g keys trees (progress.Going p line) = IsPositionKept g keys trees p.value
-IsProgressInside g keys trees (progress.Failed line left) = All (IsInside trees) left.alternatives.items
+IsProgressInside g keys trees (progress.Failed line left) = IsLeftInside trees (left_of left)
 IsProgressInside g keys trees progress.Lost = ⊤
 
 -- the line after which no continuation is valid, if it is known

@@ -11,7 +11,7 @@ use Rattle.rng_expected.proofs.FoundLeaves.{member_before}
 use Rattle.rng_reasons.specs.TagFaults.{IsLeftAfter, IsTagFault, NoneTakesThese}
 use Rattle.rng_reasons.specs.declared.tag_faults.TagFault.{TagFault}
 use Rattle.rng_reasons.specs.declared.tag_faults.TagFault.TheVariants as faults
-use Rattle.rng_deriv.specs.views.Followers.{OneTakes}
+use Rattle.rng_reasons.specs.TagReasons.{OneTakes}
 
 -- one of the patterns takes what one of their numbers takes
 pub one_of_numbers : (g : Reading) (of : ℕ → Simple ℕ) (ms : List PatternNumber) (xs : List Attribute) (ns : List Item)

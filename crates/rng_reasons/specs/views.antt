@@ -1,0 +1,2 @@
+-- What the values of the code are.
+pub mod Left
