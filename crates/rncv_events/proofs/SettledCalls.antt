@@ -19,7 +19,7 @@ use Rattle.rng_deriv.specs.views.Matchers.{HasFailedAt, HasGoneOn, HasRunOut, Is
 use Rattle.rncv_validator.specs.views.FedDocuments.{HasNotRunOut, IsFresh, matching_of}
 use Rattle.rncv_validator.proofs.FedDocuments.{gone, grammar_put, kept_put, known_put, of_some, state_put}
 use Rattle.rncv_events.specs.Answers.{IsResult}
-use Rattle.rncv_events.specs.views.Leading.{HasPassedRightly, LeadsOn, MayPass}
+use Rattle.rncv_events.specs.views.Leading.{HasPassedRightly, HoldsRightly, LeadsOn, MayPass}
 use Rattle.rncv_events.specs.views.Settled.{IsSettled}
 use Rattle.rncv_events.specs.views.Told.{HasTaken, IsFaultOfCalls, IsKeptFault, IsStuck, Judging, Takes, failed_since}
 
@@ -275,6 +275,34 @@ text_passed tests old new o s fault calm there is rightly kept =
       by false old new is before kept = untested new (tests_strings s.progress) (sym is)
       by true None new is before kept = none new (tests_strings s.progress) (kept refl refl)
       by true (Some x) new is before kept = untested new (tests_strings s.progress) before
+
+-- ---- a text that is held
+
+pub nothing_held : (place : Option MatcherState) (fault : Option EventFault) → HoldsRightly [] place fault
+nothing_held None None = tt
+nothing_held (Some s) None = λ e. refl
+nothing_held place (Some f) = tt
+
+-- after a start or an end none is
+pub held_settled : (r : Result Unit EventFault) (m : Matching) (earlier : Option EventFault) (place : Option MatcherState) (fault : Option EventFault)
+    (text : List ℕ) → IsSettled r m earlier place fault → OnOk r (text ≡ []) → HoldsRightly text place fault
+held_settled (Ok x) m earlier place fault text p none = subst (λ (t : List ℕ). HoldsRightly t place fault) (sym none) (nothing_held place fault)
+held_settled (Err faults.NotWellFormed) m earlier place fault text p none = subst (HoldsRightly text place) (sym p.1) tt
+held_settled (Err faults.Memory) m earlier place fault text p none = subst (HoldsRightly text place) (sym p.1) tt
+
+-- after a text
+pub text_held : (tests : Bool) (old new : List ℕ) (o : Option MatcherState) (s : MatcherState) (fault : Option EventFault) → fault ≡ None → o ≡ Some s
+    → tests ≡ tests_strings s.progress → HoldsRightly old o fault → (tests ≡ false → old ≡ [] → new ≡ []) → HoldsRightly new o fault
+text_held tests old new o s fault calm there is rightly kept =
+    let before = subst (λ (o : Option MatcherState). IfSome o (λ s. tests_strings s.progress ≡ false → old ≡ [])) there (subst (HoldsRightly old o) calm rightly) in
+    subst (HoldsRightly new o) (sym calm)
+    (subst (λ (o : Option MatcherState). IfSome o (λ s. tests_strings s.progress ≡ false → new ≡ [])) (sym there) (λ e. kept (is ∙ e) (before e)))
+
+-- none is where nothing is tested
+pub held_nothing : (g : Table) (k : Kept) (o : Option MatcherState) (fault : Option EventFault) → fault ≡ None → HoldsRightly k.state.text o fault
+    → tests_strings (matching_of g o).progress ≡ false → k.state.text ≡ []
+held_nothing g k None fault calm rightly e = absurd (cc)
+held_nothing g k (Some s) fault calm rightly e = subst (HoldsRightly k.state.text (Some s)) calm rightly e
 
 -- ---- a string that was passed over, and a start or an end
 

@@ -1,27 +1,32 @@
 // Documents that are told by calls.
-ghost use Rattle.std.specs.Prelude.{◌≡◌, [], ◌∷◌, ◌++◌, ℕ, List, IfErr, IfOk, IfSome, IsErrOf, OnOk, Some, None, Err, unwrap_or};
+ghost use Rattle.std.specs.Prelude.{◌≡◌, ◌⊎◌, [], ◌∷◌, ◌++◌, ℕ, List, IfErr, IfOk, IfSome, IsErrOf, OnErr, OnOk, Some, None, Err, false, length, map, unwrap_or};
 ghost use Rattle.rng_model.specs.schema.Schema.{Schema};
 ghost use Rattle.rng_model.specs.xsd.SchemasWith.{IsValidBySchemaWith};
 ghost use Rattle.rng_model.specs.declared.type_set.TypeSet.{TypeSet};
 ghost use Rattle.rng_model.specs.documents.PyxTrees.{Event, a_string, an_end};
 ghost use Rattle.rncv_model.specs.answers.Verdict.{IsUnknownIn};
 ghost use Rattle.rng_model.specs.matching.GrammarMatching.{reading_of};
-ghost use Rattle.rng_model.specs.names.NameViews.{name_of};
 ghost use Rattle.rng_expected.specs.views.Next.{next_of, tag_of};
-ghost use Rattle.rng_deriv.specs.views.Followers.{MayFollow, MayHave};
+ghost use Rattle.rng_deriv_events.specs.views.Inputs.{tests_strings};
+ghost use Rattle.rng_deriv.specs.views.Followers.{HasEndReason, HasStartReason, MayFollow, MayHave, MayReplace};
+ghost use Rattle.rng_deriv.specs.views.Matchers.{Knows, trees_in};
+ghost use Rattle.rng_deriv_events.specs.views.NextEnds.{TellsEnd};
+ghost use Rattle.rncv_events.specs.views.Ending.{IsWhyNoEnd};
 ghost use Rattle.rncv_validator.specs.views.Validators.{JudgesWith};
 ghost use Rattle.element_events.specs.views.Kept.{UnlessOutOfMemory};
-ghost use Rattle.element_events.specs.views.Told.{call, name_told, start_told};
+ghost use Rattle.element_events.specs.views.Told.{attribute_told, call, name_told, start_told};
 ghost use Rattle.rncv_events.specs.Answers.{AreHopelessFrom, IsAnswer, IsResult, KnowsStarts};
-ghost use Rattle.rncv_events.specs.views.Told.{HasTaken, IsStuck, Takes, answer_by, failed_since};
+ghost use Rattle.rncv_events.specs.views.Told.{HasTaken, IsStuck, StillKnows, Takes, answer_by, failed_since};
 
+use crate::copies::{copied_attributes, copied_name};
 use crate::settling::settle;
 use crate::telling::{tell_end, tell_start, tell_text};
 use element_events::{Attribute, ElementEvents, EventFault, ExpandedName};
 use rncv_validator::Validator;
 use rng_deriv::{Matcher, MatcherState};
 use rng_expected::{Expected, ExpectedTag};
-use rng_model::{Name, Namespace, OutOfMemory, Outcome, SimpleGrammar};
+use rng_model::{OutOfMemory, Outcome, SimpleGrammar};
+use rng_reasons::{Reason, StartTag};
 use std::alloc::Global;
 use std::marker::Model;
 use std::sync::Arc;
@@ -48,7 +53,7 @@ impl Model for EventDocument {
     ghost use Rattle.rng_model.specs.restrictions.Restrictions.{BreaksNone};
     ghost use Rattle.rng_deriv.specs.views.Matchers.{IsStateBy};
     ghost use Rattle.rncv_validator.specs.views.FedDocuments.{HasNotRunOut, matching_of};
-    ghost use Rattle.rncv_events.specs.views.Leading.{HasPassedRightly};
+    ghost use Rattle.rncv_events.specs.views.Leading.{HasPassedRightly, HoldsRightly};
     ghost use Rattle.rncv_events.specs.views.Told.{IsKeptFault, Judging};
     ghost use Rattle.rng_model.specs.contracts.name.NameClass as classes;
     ghost use Rattle.std.specs.Coded.{codes};
@@ -59,7 +64,7 @@ impl Model for EventDocument {
 
     ghost view = { λ d. record { grammar = d.grammar.value; calls = d.calls; matching = matching_of d.grammar.value d.state; fault = d.fault } };
 
-    ghost invariant = { λ d. (BreaksNone (grammar_of d.grammar.value)) × (IfSome d.state (IsStateBy d.grammar.value)) × (IsKeptFault d.calls d.state d.fault) × (IfSome d.state (HasNotRunOut d.grammar.value)) × (HasPassedRightly d.calls.passed d.state d.fault) };
+    ghost invariant = { λ d. (BreaksNone (grammar_of d.grammar.value)) × (IfSome d.state (IsStateBy d.grammar.value)) × (IsKeptFault d.calls d.state d.fault) × (IfSome d.state (HasNotRunOut d.grammar.value)) × (HasPassedRightly d.calls.passed d.state d.fault) × (HoldsRightly d.calls.state.text d.state d.fault) };
 }
 
 impl EventDocument {
@@ -247,11 +252,127 @@ impl EventDocument {
         let Some(state) = &self.state else {
             return Err(OutOfMemory);
         };
-        let name = name_of(self.alloc, name)?;
+        let name = copied_name(self.alloc, name)?;
         let Some(tag) = state.expected_tag(self.alloc, &self.grammar, &name)? else {
             unreachable!();
         };
         Ok(tag)
+    }
+
+    /// Returns what may come in place of the string since the last start or end, or could have come in place of the one before
+    /// the event after which no continuation is valid, if `invalid_since` returns one. If there is none, or it is blank, it is
+    /// what `expected` returns.
+    ///
+    /// Fails and costs as `expected` does. RELAX NG Specification, sections 6.2 and 6.2.7.
+    pub fn expected_in_place(&self) -> Result<Expected<'_>, OutOfMemory>
+        ensures { IfOk result (λ e. (calls : List Event) (taken : HasTaken self.now calls)
+            → MayReplace (reading_of self.now.grammar) self.now.matching.progress (next_of e) taken.events) }
+    {
+        let Some(state) = &self.state else {
+            return Err(OutOfMemory);
+        };
+        let Some(expected) = state.expected_in_place(self.alloc, &self.grammar)? else {
+            unreachable!();
+        };
+        Ok(expected)
+    }
+
+    /// Returns why a start of this name with these attributes leaves nothing of what may come next, or `None` if it leaves
+    /// something. If `invalid_since` returns a place, it is about what could have come before that event: if the event is this
+    /// start, it is why no continuation is valid.
+    ///
+    /// It is stated on what is left of the pattern (`Reason`). The calls that were taken stay. Fails only when out of memory,
+    /// in this call or in an earlier one. Then what is kept is unchanged, or each later call fails. Costs a copy of the name
+    /// and the attributes, and what `MatcherState::start_reason` costs. RELAX NG Specification, sections 6.2.7 and 6.2.8.
+    pub fn start_reason(
+        &mut self,
+        name: ExpandedName<'_>,
+        attributes: &[Attribute<'_>],
+    ) -> Result<Option<Reason>, OutOfMemory>
+        ensures knows { StillKnows self.old self.new }
+        ensures same { OnOk result ((self.new.fault ≡ self.old.fault) × (self.new.matching.progress ≡ self.old.matching.progress)) }
+        ensures reason { IfOk result (λ reason. (calls : List Event) (taken : HasTaken self.old calls)
+            → HasStartReason (reading_of self.old.grammar) self.old.matching.progress (trees_in self.new.matching)
+            (name_told name.entry) (map attribute_told attributes.now) reason taken.events) }
+        ensures failed { OnErr result ((self.new ≡ self.old) ⊎ (self.new.fault ≡ Some EventFault.Memory)) }
+    {
+        let name = copied_name(self.alloc, name)?;
+        let attrs = copied_attributes(self.alloc, attributes)?;
+        let Some(mut state) = self.state.take() else {
+            return Err(OutOfMemory);
+        };
+        let tag = StartTag {
+            name: &name,
+            attrs: attrs.as_slice(),
+        };
+        let Ok(reason) = state.start_reason(self.alloc, &self.grammar, &tag) else {
+            self.fault = Some(EventFault::Memory);
+            return Err(OutOfMemory);
+        };
+        self.state = Some(state);
+        Ok(reason)
+    }
+
+    /// Returns why an end leaves nothing of what may come next, or `None` exactly if it leaves something. If `invalid_since`
+    /// returns a place, it is about what could have come before that event: if the event is an end, it is why no continuation
+    /// is valid.
+    ///
+    /// It is stated on what is left of the pattern (`Reason`). The calls that were taken stay. Fails only when out of memory,
+    /// in this call or in an earlier one; then later calls may fail too. Costs what `Matcher::may_end` and
+    /// `MatcherState::end_reason` cost. RELAX NG Specification, section 6.2.7.
+    pub fn end_reason(&mut self) -> Result<Option<Reason>, OutOfMemory>
+        ensures knows { StillKnows self.old self.new }
+        ensures same { OnOk result (self.new.fault ≡ self.old.fault) }
+        ensures reason { IfOk result (λ reason. (calls : List Event) (taken : HasTaken self.old calls)
+            → IsWhyNoEnd (reading_of self.old.grammar) self.old.matching.progress self.new.matching.progress reason taken.events) }
+        ensures failed { OnErr result ((self.new.fault ≡ self.old.fault) ⊎ (self.new.fault ≡ Some EventFault.Memory)) }
+    {
+        if self.may_end()? {
+            return Ok(None);
+        }
+        let reason = self.reason_of_end()?;
+        Ok(Some(reason))
+    }
+
+    /// Returns whether an end may come next, or could have come before the event after which no continuation is valid.
+    fn may_end(&mut self) -> Result<bool, OutOfMemory>
+        ensures knows { StillKnows self.old self.new }
+        ensures same { OnOk result (self.new.fault ≡ self.old.fault) }
+        ensures tells { IfOk result (λ told. (calls : List Event) (taken : HasTaken self.old calls)
+            → TellsEnd (reading_of self.old.grammar) self.old.matching.progress told taken.events) }
+        ensures failed { OnErr result (self.new.fault ≡ Some EventFault.Memory) }
+    {
+        let Some(state) = self.state.take() else {
+            return Err(OutOfMemory);
+        };
+        let mut matcher = Matcher::resume(self.alloc, &self.grammar, state);
+        let Ok(told) = matcher.may_end() else {
+            self.fault = Some(EventFault::Memory);
+            return Err(OutOfMemory);
+        };
+        self.state = Some(matcher.into_state());
+        Ok(told)
+    }
+
+    /// Returns why an end leaves nothing, where it may not come.
+    fn reason_of_end(&self) -> Result<Reason, OutOfMemory>
+        ensures { IfOk result (λ reason. (es : List Event) → Knows self.now.matching es
+            → HasEndReason (reading_of self.now.grammar) self.now.matching.progress reason es) }
+    {
+        let Some(state) = &self.state else {
+            return Err(OutOfMemory);
+        };
+        let reason = state.end_reason(self.alloc, &self.grammar)?;
+        Ok(reason)
+    }
+
+    /// Returns how many bytes are held of the text behind the last start or end, which grows with the document. None are held
+    /// where no alternative that is left tests what a string says. Allocates nothing.
+    pub fn held(&self) -> usize
+        ensures value { result ≡ length self.now.calls.state.text }
+        ensures nothing { self.now.fault ≡ None → tests_strings self.now.matching.progress ≡ false → result ≡ 0 }
+    {
+        self.calls.held()
     }
 
     /// Ends the document, and returns whether it is valid, and the validator for the next document.
@@ -288,15 +409,6 @@ impl EventDocument {
         let state = Some(matcher.into_state());
         (Validator::of_parts(grammar, state), answer)
     }
-}
-
-/// Returns a copy of a name.
-fn name_of(alloc: Global, name: ExpandedName<'_>) -> Result<Name, OutOfMemory>
-    ensures { IfOk result (λ copy. name_of copy ≡ name_told name.entry) }
-{
-    let local = String::from_str(alloc, name.local)?;
-    let ns = Namespace::new(alloc, name.namespace)?;
-    Ok(Name { ns, local })
 }
 
 /// Returns the answer at the end of a document, given how the calls ended and the outcome of the matcher.

@@ -5,6 +5,7 @@
 //! are checked by `element_events`. RELAX NG Specification, sections 2 and 6.
 #![tactic(auto)]
 
+mod copies;
 mod document;
 mod settling;
 mod telling;

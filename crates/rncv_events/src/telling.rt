@@ -1,6 +1,6 @@
 // Calls that are told to the matcher. A string is passed over where no alternative that is left tests what it says. Then
 // the matcher is told of it once the next start or end gives it a place.
-ghost use Rattle.std.specs.Prelude.{◌≡◌, ℕ, List, Err, IfErr, IfSome, IsErrOf, None, OnOk, Some, false, true};
+ghost use Rattle.std.specs.Prelude.{◌≡◌, ℕ, List, [], Err, IfErr, IfSome, IsErrOf, None, OnOk, Some, false, true};
 ghost use Rattle.rng_model.specs.documents.EventViews.{Hands};
 ghost use Rattle.rng_model.specs.documents.PyxTrees.{Event, a_string, an_end};
 ghost use Rattle.rng_model.specs.documents.Telling.{BeginsDocument, string_at};
@@ -23,6 +23,7 @@ pub fn tell_text(
 ) -> Result<(), EventFault>
     ensures stands { (place : ℕ) → UnlessOutOfMemory result (Adds calls.old calls.new (call place (a_string text.now))) }
     ensures kept { tests_strings ≡ true → calls.old.passed ≡ None → calls.new.passed ≡ None }
+    ensures held { OnOk result (tests_strings ≡ false → calls.old.state.text ≡ [] → calls.new.state.text ≡ []) }
     ensures begins { OnOk result ((told sent : List Event) → Stands calls.new told sent → BeginsDocument told sent) }
     ensures fault { IfErr result (λ f. calls.new.fault ≡ Some f) }
     ensures working { OnOk result (calls.new.fault ≡ None) }
@@ -63,6 +64,7 @@ pub fn tell_start(
     ensures fault { IsErrOf result EventFault.NotWellFormed → calls.new.fault ≡ Some EventFault.NotWellFormed }
     ensures working { OnOk result (calls.new.fault ≡ None) }
     ensures passed { OnOk result (calls.new.passed ≡ None) }
+    ensures held { OnOk result (calls.new.state.text ≡ []) }
 {
     tell_passed(calls, matcher, place)?;
     calls.start(place, name, attributes, matcher)
@@ -80,6 +82,7 @@ pub fn tell_end(
     ensures fault { IsErrOf result EventFault.NotWellFormed → calls.new.fault ≡ Some EventFault.NotWellFormed }
     ensures working { OnOk result (calls.new.fault ≡ None) }
     ensures passed { OnOk result (calls.new.passed ≡ None) }
+    ensures held { OnOk result (calls.new.state.text ≡ []) }
 {
     tell_passed(calls, matcher, place)?;
     calls.end(place, matcher)

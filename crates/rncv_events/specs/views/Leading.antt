@@ -1,5 +1,5 @@
 -- What a call that is told to the matcher does to what is kept of calls and of the document.
-use Rattle.std.specs.Prelude.{◌≡◌, ⊤, List, [], ◌∷◌, ◌++◌, Bool, false, Option, Some, None, IfSome}
+use Rattle.std.specs.Prelude.{◌≡◌, ⊤, ℕ, List, [], ◌∷◌, ◌++◌, Bool, false, Option, Some, None, IfSome}
 use Rattle.rng_model.specs.documents.PyxTrees.{Event}
 use Rattle.element_events.specs.views.Kept.{Kept, Stands}
 use Rattle.element_events.specs.declared.fault.EventFault.{EventFault}
@@ -16,6 +16,11 @@ MayPass passed p = IfSome passed (λ _. tests_strings p ≡ false)
 abbrev pub HasPassedRightly : Option Bool → Option MatcherState → Option EventFault → Type 0
 HasPassedRightly passed o None = IfSome o (λ s. MayPass passed s.progress)
 HasPassedRightly passed o (Some f) = ⊤
+
+-- a text is held only where an alternative that is left tests what it says
+abbrev pub HoldsRightly : List ℕ → Option MatcherState → Option EventFault → Type 0
+HoldsRightly text o None = IfSome o (λ s. tests_strings s.progress ≡ false → text ≡ [])
+HoldsRightly text o (Some f) = ⊤
 
 -- For all calls and events that what was kept of calls stood for, it now stands for them with this call, and with events by
 -- which the matcher has gone on. Whatever the calls are, it has gone on by some.

@@ -31,6 +31,13 @@ pub record HasTaken (d : Judging) (calls : List Event) : Type 0 where
 abbrev pub Takes : Judging → Judging → Event → Type 0
 Takes old new c = (calls : List Event) → HasTaken old calls → HasTaken new (calls ++ c ∷ [])
 
+-- what was known of calls still is
+pub record StillKnows (old new : Judging) : Type 0 where
+  pub grammar : new.grammar ≡ old.grammar
+  pub calls : new.calls ≡ old.calls
+  pub by_grammar : new.matching.grammar ≡ new.grammar
+  pub knows : (es : List Event) → Knows old.matching es → Knows new.matching es
+
 -- the place of the event after which no continuation is valid, if it is known
 abbrev pub failed_since : Judging → Option ℕ
 failed_since d = failed_line d.matching.progress

@@ -8,7 +8,7 @@ use Rattle.rncv_validator.proofs.FedDocuments.{state_there}
 use Rattle.rncv_events.specs.Answers.{IsResult}
 use Rattle.rncv_events.specs.views.Leading.{LeadsOn}
 use Rattle.rncv_events.specs.views.Told.{HasTaken, IsFaultOfCalls, Judging, Takes, failed_since}
-use Rattle.rncv_events.proofs.SettledCalls.{fault_of_calls, fault_settled, fault_told, kept_settled, may_pass, none_told, passed_settled, result_is, resumed_there, since_settled}
+use Rattle.rncv_events.proofs.SettledCalls.{fault_of_calls, fault_settled, fault_told, held_settled, kept_settled, may_pass, none_told, passed_settled, result_is, resumed_there, since_settled}
 use Rattle.rncv_events.proofs.SettledCalls.{state_settled, stuck_result, stuck_taken, taken_settled}
 use Rattle.rncv_events.proofs.document.EventDocument.end.Goals as goal
 
@@ -47,6 +47,7 @@ invariant_of-self c =
       kept_settled g c.deref.result.now s old new c.deref.ensures c.resume-matcher.ensures d.calls k e d.fault place fault r longer settled
           (state_there d.state s (HasNotRunOut g) (search rules) c.self.invariant.3),
       passed_settled r new d.fault place fault k.passed settled c.tell_end-answer.ensures.passed,
+      held_settled r new d.fault place fault k.state.text settled c.tell_end-answer.ensures.held,
     )
 
 pub returns-clause-taken : goal.returns-clause-taken

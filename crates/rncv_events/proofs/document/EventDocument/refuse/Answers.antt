@@ -20,6 +20,7 @@ invariant_of-self c =
       text_fault d.calls c.refuse-fault.new.self d.state d.fault c.refuse-fault.result (search rules) c.self.invariant.2 c.refuse-fault.ensures.kept,
       c.self.invariant.3,
       tt,
+      tt,
     )
 
 pub returns-clause-fault : goal.returns-clause-fault

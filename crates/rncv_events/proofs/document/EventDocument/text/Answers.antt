@@ -4,7 +4,7 @@ use Rattle.element_events.specs.views.Kept.{Adds, UnlessOutOfMemory}
 use Rattle.element_events.specs.views.Told.{call}
 use Rattle.rncv_validator.specs.views.FedDocuments.{matching_of}
 use Rattle.rncv_events.specs.views.Told.{IsFaultOfCalls, Judging}
-use Rattle.rncv_events.proofs.SettledCalls.{fault_of_calls, stuck_result, stuck_taken, text_passed, text_result_is, text_taken, text_takes, text_working}
+use Rattle.rncv_events.proofs.SettledCalls.{fault_of_calls, stuck_result, stuck_taken, text_held, text_passed, text_result_is, text_taken, text_takes, text_working}
 use Rattle.rncv_events.proofs.document.EventDocument.text.Goals as goal
 
 pub returns-in-Some-clause-taken : goal.returns-in-Some-clause-taken
@@ -30,6 +30,8 @@ invariant_of-self c =
       c.self.invariant.3,
       text_passed c.tests_strings-tests_strings.result d.calls.passed c.tell_text.new.calls.passed d.state c.in-Some-state.state d.fault (search rules) (search rules)
           c.tests_strings-tests_strings.ensures c.self.invariant.4 c.in-Ok.ensures.kept,
+      text_held c.tests_strings-tests_strings.result d.calls.state.text c.tell_text.new.calls.state.text d.state c.in-Some-state.state d.fault (search rules)
+          (search rules) c.tests_strings-tests_strings.ensures c.self.invariant.5 c.in-Ok.ensures.held,
     )
 
 pub returns-in-Ok-clause-taken : goal.returns-in-Ok-clause-taken
