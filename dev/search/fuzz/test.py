@@ -2,7 +2,7 @@
 """A quick test of the fuzz tool:   dev/search/fuzz/test.py [PROGRAM]
 
 Some cases of a fixed seed find nothing. In a program with a planted fault the fault is found, and the case is made small. The same holds of documents in
-XML, and of expressions of the facet `pattern`, for the `rncv-xml` in the folder that RNCV_XML_PROGRAMS names.
+XML, of expressions of the facet `pattern`, and of why documents are invalid, for the `rncv-xml` in the folder that RNCV_XML_PROGRAMS names.
 """
 import os
 import pathlib
@@ -15,6 +15,7 @@ import unittest
 
 import datatype_schemas
 import datatypes_run
+import documents
 import value_judges
 import value_texts
 import values_run
@@ -22,6 +23,10 @@ import pattern_expressions
 import pattern_judges
 import pattern_reasons
 import patterns_run
+import reasons
+import reasons_cases
+import reasons_said
+import schemas
 import xml_differences
 import xml_documents
 import xml_judges
@@ -65,6 +70,15 @@ printf '%s\\n' "$answer" | while read -r line; do
   name=${line%%:*}
   if grep -qs 'a="[^"]*b' "$name"; then echo "$name:1:1: invalid: b"; else printf '%s\\n' "$line"; fi
 done
+exit $status
+"""
+
+
+# It does not tell a text of a wrong datatype.
+UNTYPED = """#!/bin/sh
+answer=$("$REAL_PROGRAM" "$@")
+status=$?
+printf '%s\\n' "$answer" | sed 's/"reason": "text-value"/"reason": "incomplete"/'
 exit $status
 """
 
@@ -304,6 +318,103 @@ class ValuesTest(unittest.TestCase):
                              capture_output=True, text=True, check=False)
         self.assertEqual(run.returncode, 0, run.stdout + run.stderr)
         self.assertIn("0 differences without an explanation", run.stdout)
+
+
+class ReasonsTest(unittest.TestCase):
+    """`reasons_run.py`: the plain matcher says why a document is invalid."""
+    INTEGER = ("data", "xsd:integer", (), None)
+    # element r { ((attribute x { text }, attribute y { xsd:integer }) | attribute z { text }), (xsd:integer | (text, element a { empty })) }
+    PARTS = [("attribute", ("name", "", it), body) for it, body in (("x", ("text",)), ("y", INTEGER), ("z", ("text",)))]
+    CONTENT = ("choice", (INTEGER, ("group", (("text",), ("element", ("name", "", "a"), ("empty",))))))
+    SCHEMA = schemas.Schema(("element", ("name", "", "r"), ("group", (("choice", (("group", tuple(PARTS[:2])), PARTS[2])), CONTENT))), {})
+
+    def said(self, lines, schema=SCHEMA):
+        """The reason for a document, its place, and what belongs to it."""
+        found = reasons.reason_of(reasons.ReasonPatterns(schema), lines.split("|"))
+        if found is None:
+            return None
+        about = {found.attribute, *(found.missing or ()), *(found.others or ()), *(it for it, may in (found.names or {}).items() if may)} - {None}
+        return found.reason, found.at, found.column, sorted(about), sorted(found.texts or ())
+
+    def test_reasons(self):
+        integer, names = ("data", "xsd:integer", None), {it: ("", it) for it in "arxyz"}
+        for lines, wanted in (
+                ("(r|Az 1|-5|)r", None),
+                ("(q|)q", (reasons.ELEMENT, "element", 1, [names["r"]], [])),
+                ("(r|Az 1|-t|(b|)b|)r", (reasons.ELEMENT, "element", 11, [names["a"]], [])),
+                ("(r|)r", (reasons.MISSING, "element", 1, [], [])),
+                ("(r|Ax 1|)r", (reasons.MISSING, "element", 1, [names["y"]], [])),
+                ("(r|Ax 1|Az 1|)r", (reasons.ATTRIBUTE, "attribute", 1, [names["y"], names["z"]], [])),
+                ("(r|Az 1|Ay 1|)r", (reasons.ATTRIBUTE, "attribute", 1, [names["x"], names["y"]], [])),
+                ("(r|Ay t|Ax 1|)r", (reasons.ATTRIBUTE_VALUE, "attribute", 1, [names["y"]], [integer])),
+                ("(r|Az 1|- t|)r", (reasons.TEXT_VALUE, "text", 11, [names["a"]], [integer])),
+                ("(r|Az 1|)r", (reasons.INCOMPLETE, "end", 1, [names["a"]], [integer])),
+                ("(r|Az 1|- |)r", (reasons.INCOMPLETE, "end", 11, [names["a"]], [integer])),
+                ("(r|Az 1|(a|)a|-t|)r", (reasons.TEXT, "text", 17, [], [])),
+                ("(r|Az 1|(a|)a|-t|(a|)a|)r", (reasons.TEXT, "text", 17, [], []))):
+            self.assertEqual(self.said(lines), wanted, lines)
+
+    def test_an_element_of_which_nothing_is_valid(self):
+        schema = schemas.Schema(("element", ("any", None), ("group", (("notAllowed",), self.PARTS[0]))), {})
+        found = self.said("(a|)a", schema)
+        self.assertEqual(found[:3], (reasons.ELEMENT, "element", 1))
+        self.assertIn((reasons.FRESH_URI, reasons.FRESH), found[3])
+
+    def test_what_is_shown(self):
+        scope = {"": "urn:a", "p": "urn:b"}
+        told = ["<b>", "<p:c>", "<d> without namespace", "{urn:c}e", "any element of urn:d (with exceptions)", '"<f>"', "xsd:integer"]
+        items = reasons_said.Items(told, scope)
+        self.assertEqual(items.names, {("urn:a", "b"), ("urn:b", "c"), ("", "d"), ("urn:c", "e")})
+        self.assertEqual((items.wild, items.texts, items.has_text), ({("urn:d", True)}, {'"<f>"', "xsd:integer"}, False))
+        self.assertTrue(items.covers(("urn:d", "x")) and not items.covers(("urn:a", "x")))
+        self.assertEqual(reasons_said.attributes_of(["x", "p:x"], scope), {("", "x"), ("urn:b", "x")})
+        self.assertRaises(reasons_said.Unresolved, reasons_said.expanded, "q:x", scope, True)
+
+    def test_differences(self):
+        patterns = reasons.ReasonPatterns(self.SCHEMA)
+        reason = reasons.reason_of(patterns, "(r|Az 1|)r".split("|"))
+        said = {"verdict": "invalid", "line": 1, "column": 1, "at": "end", "name": "r", "reason": "incomplete", "expected": ["<a>", "xsd:integer"]}
+        for changes, kind in (
+                ({}, None), ({"verdict": "valid"}, "valid, and not invalid"), ({"reason": "text-value"}, "text-value, and not incomplete"),
+                ({"column": 11}, "place"), ({"name": "a"}, "name"), ({"expected": ["xsd:integer"]}, "names expected for incomplete"),
+                ({"expected": ["<a>", "<b>", "xsd:integer"]}, "names expected for incomplete"), ({"expected": ["<a>"]}, "texts expected for incomplete"),
+                ({"expected": ["<p:a>", "xsd:integer"]}, "a prefix that is not declared")):
+            found = reasons_said.difference({**said, **changes}, reason, patterns)
+            self.assertEqual(found and found[0], kind, changes)
+
+    def test_that_a_seed_says_all(self):
+        for number in range(10):
+            made = []
+            for _ in range(2):
+                chance = random.Random(number)
+                changing = reasons_cases.Changing(reasons_cases.schema(str(number), chance), chance)
+                made.append([documents.as_bytes(it) for it in changing.documents(10)])
+            self.assertEqual(*made)
+
+    def judged(self, program, *words):
+        with tempfile.TemporaryDirectory() as room:
+            run = subprocess.run([sys.executable, "-B", HERE / "reasons_run.py", "--seed", "test", "--count", "8", "--documents", "20", "--program", program,
+                                  "--found", room, *words], capture_output=True, text=True, check=False, env={**os.environ, "REAL_PROGRAM": str(RNCV_XML)})
+            return run.returncode, run.stdout + run.stderr
+
+    def test_that_only_known_kinds_are_found(self):
+        if not RNCV_XML.exists():
+            self.skipTest(f"there is no {RNCV_XML}")
+        known = ("attribute*", "other attributes*", "texts expected for attribute-value")
+        status, reported = self.judged(RNCV_XML, *(word for it in known for word in ("--without", it)))
+        self.assertEqual(status, 0, reported)
+        self.assertIn(" 0 differences", reported)
+
+    def test_that_a_wrong_reason_is_found(self):
+        if not RNCV_XML.exists():
+            self.skipTest(f"there is no {RNCV_XML}")
+        with tempfile.TemporaryDirectory() as room:
+            untyped = pathlib.Path(room, "untyped")
+            untyped.write_text(UNTYPED)
+            untyped.chmod(0o755)
+            status, reported = self.judged(untyped, "--no-reducing", "--without", "attribute*")
+        self.assertEqual(status, 1, reported)
+        self.assertIn(": incomplete, and not text-value: ", reported)
 
 
 if __name__ == "__main__":
