@@ -15,6 +15,7 @@ VALUES = {
     "u64": "0",
     "&mut Handle": "&mut Handle::empty(alloc)",
     "&mut Refusal": "&mut Refusal { clause: 0, file: 0, offset: 0, line: 0, column: 0 }",
+    "&mut ReasonNumbers": "&mut ReasonNumbers { kind: 0, attribute: 0 }",
     "&mut Judgement": "&mut Judgement { kind: 0, clause: 0, line: 0 }",
     "&mut [u8]": "&mut [0u8; 1]",
     "&mut usize": "&mut 0usize",

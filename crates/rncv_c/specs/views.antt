@@ -4,3 +4,4 @@ pub mod Events
 pub mod Expected
 pub mod Handles
 pub mod Held
+pub mod Reasons

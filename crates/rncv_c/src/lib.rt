@@ -5,18 +5,19 @@
 //! those of `code_of` of `rncv_c_values`.
 #![tactic(auto)]
 
-ghost use Rattle.std.specs.Prelude.{◌≡◌, ◌≢◌, ◌↔◌, pos, IfSome, IsSome, IsSomeAnd, IsUtf8, ⊤};
+ghost use Rattle.std.specs.Prelude.{◌≡◌, ◌≢◌, ◌↔◌, pos, IfSome, IsSome, IsSomeAnd, IsUtf8, map, ⊤};
 ghost use Rattle.std.specs.declared.option.Option.TheVariants.{None};
 ghost use Rattle.rnc_model.specs.loading.DatatypePlaces.{HasBrokenDatatype};
 ghost use Rattle.rnc_model.specs.loading.SchemaFile.{FileName};
 ghost use Rattle.rng_model.specs.documents.PyxTrees.{a_string, an_end};
 ghost use Rattle.element_events.specs.views.Told.{call};
 ghost use Rattle.rncv_validator.specs.views.Validators.{IsOneFor, IsOneForWith};
-ghost use Rattle.rncv_c_values.specs.views.Attributes.{AreTexts, IsTextName, name_in, start_of};
+ghost use Rattle.rncv_c_values.specs.views.Attributes.{AreTexts, IsTextName, attribute_of, name_in, start_of};
 ghost use Rattle.rncv_c.specs.views.Calls.{HasBegun, HasEnded, HasTaken, IsInvalidSince};
 ghost use Rattle.rncv_c_values.specs.views.Datatypes.{set_of};
 ghost use Rattle.rncv_c.specs.views.Events as of_events;
 ghost use Rattle.rncv_c.specs.views.Expected.{HoldsNoDocument, IsExpectationIn, IsTagText};
+ghost use Rattle.rncv_c.specs.views.Reasons.{IsHeldBy, IsReplacementText, TellsEndReason, TellsStartReason};
 ghost use Rattle.rncv_c_values.specs.views.Files.{AreNamed, files_of, main_of};
 ghost use Rattle.rncv_c.specs.views.Held.{document_in, events_in, grammar_in, schema_in};
 ghost use Rattle.rncv_c_values.specs.views.Mentions.{AreMentionsOf, IsRefusedAlone};
@@ -27,11 +28,12 @@ mod documents;
 mod events;
 mod expected;
 mod handle;
+mod reasons;
 mod schemas;
 
 use handle::Handle;
 use rncv_c_values::{
-    AttributeBytes, Judgement, NameBytes, Refusal, SchemaFile, Status, set_of_number,
+    AttributeBytes, Judgement, NameBytes, ReasonNumbers, Refusal, SchemaFile, Status, set_of_number,
 };
 use std::alloc::Global;
 
@@ -420,6 +422,113 @@ pub extern "C" fn rncv_expected_tag(
     ensures kept { schema.new.held ≡ schema.old.held }
 {
     expected::expected_tag(alloc, schema, NameBytes { uri, local }, buffer, count).code()
+}
+
+/// Writes what may come in place of the string since the last start or end of the document of events that the handle holds,
+/// as text, to the buffer if it fits, and reports its length in `count`. `expected_text` has the lines. If no continuation is
+/// valid, it is what could have come in place of the string before the event that made it so.
+///
+/// Returns what `rncv_expected` returns, and costs the same; 4 exactly if no document of events is begun. RELAX NG
+/// Specification, sections 6.2 and 6.2.7.
+#[unsafe(no_mangle)]
+pub extern "C" fn rncv_expected_in_place(
+    alloc: Global,
+    schema: &mut Handle,
+    buffer: &mut [u8],
+    count: &mut usize,
+) -> i32
+    ensures done { result ≡ pos 0 → IfSome (events_in schema.old.held) (λ d. IsWritten (IsReplacementText d) count.new buffer.old buffer.new) }
+    ensures space { result ≡ pos 5 → IfSome (events_in schema.old.held) (λ d. IsTooLong (IsReplacementText d) count.new buffer.old) }
+    ensures misuse { (result ≡ pos 4) ↔ (events_in schema.old.held ≡ None) }
+    ensures others { result ≢ pos 0 → result ≢ pos 4 → result ≢ pos 5 → result ≡ pos 3 }
+    ensures failed { result ≢ pos 0 → buffer.new ≡ buffer.old }
+    ensures untold { result ≢ pos 0 → result ≢ pos 5 → count.new ≡ count.old }
+    ensures kept { schema.new.held ≡ schema.old.held }
+{
+    reasons::expected_in_place(alloc, schema, buffer, count).code()
+}
+
+/// Reports in `reason` why a start of this name with these attributes leaves nothing of what may come next in the document of
+/// events that the handle holds, or that it leaves something. If no continuation is valid, it is about what could have come
+/// before the event that made it so. `ReasonNumbers` has the numbers.
+///
+/// Returns 0 on success; 2 exactly if a document of events is begun and a text is not UTF-8; 3 when out of memory, and then
+/// later calls for the document may return it; 4 exactly if no document of events is begun. Costs what
+/// `EventDocument::start_reason` costs. RELAX NG Specification, sections 6.2.7 and 6.2.8.
+#[unsafe(no_mangle)]
+pub extern "C" fn rncv_events_start_reason(
+    alloc: Global,
+    schema: &mut Handle,
+    uri: &[u8],
+    local: &[u8],
+    attributes: &[AttributeBytes<'_>],
+    reason: &mut ReasonNumbers,
+) -> i32
+    ensures done { result ≡ pos 0 → IfSome (events_in schema.old.held) (λ d. IsSomeAnd (events_in schema.new.held)
+        (TellsStartReason (name_in uri.now local.now) (map attribute_of attributes.now) reason.new d)) }
+    ensures misuse { (result ≡ pos 4) ↔ (events_in schema.old.held ≡ None) }
+    ensures malformed { result ≡ pos 2 → ¬ (AreTexts (name_in uri.now local.now) attributes.now) }
+    ensures texts { result ≡ pos 0 → AreTexts (name_in uri.now local.now) attributes.now }
+    ensures others { result ≢ pos 0 → result ≢ pos 2 → result ≢ pos 4 → result ≡ pos 3 }
+    ensures untold { result ≢ pos 0 → reason.new ≡ reason.old }
+    ensures kept { grammar_in schema.new.held ≡ grammar_in schema.old.held }
+    ensures failed { result ≢ pos 0 → result ≢ pos 3 → schema.new.held ≡ schema.old.held }
+{
+    match reasons::start_reason(alloc, schema, NameBytes { uri, local }, attributes) {
+        Ok(told) => {
+            *reason = told;
+            Status::Done.code()
+        }
+        Err(status) => status.code(),
+    }
+}
+
+/// Reports in `reason` why an end leaves nothing of what may come next in the document of events that the handle holds, or
+/// that it may come. If no continuation is valid, it is about what could have come before the event that made it so.
+///
+/// Returns 0 on success; 3 when out of memory, and then each later call for the document returns it; 4 exactly if no document
+/// of events is begun. Costs what `EventDocument::end_reason` costs. RELAX NG Specification, section 6.2.7.
+#[unsafe(no_mangle)]
+pub extern "C" fn rncv_events_end_reason(
+    alloc: Global,
+    schema: &mut Handle,
+    reason: &mut ReasonNumbers,
+) -> i32
+    ensures done { result ≡ pos 0 → IfSome (events_in schema.old.held) (λ d. IsSomeAnd (events_in schema.new.held) (TellsEndReason reason.new d)) }
+    ensures misuse { (result ≡ pos 4) ↔ (events_in schema.old.held ≡ None) }
+    ensures others { result ≢ pos 0 → result ≢ pos 4 → result ≡ pos 3 }
+    ensures untold { result ≢ pos 0 → reason.new ≡ reason.old }
+    ensures kept { grammar_in schema.new.held ≡ grammar_in schema.old.held }
+    ensures failed { result ≡ pos 4 → schema.new.held ≡ schema.old.held }
+{
+    match reasons::end_reason(alloc, schema) {
+        Ok(told) => {
+            *reason = told;
+            Status::Done.code()
+        }
+        Err(status) => status.code(),
+    }
+}
+
+/// Reports in `count` how many bytes the handle holds of the text behind the last start or end of its document of events. They
+/// grow with the document. None are held where the schema does not test what a text says.
+///
+/// Returns 0 on success; 4 exactly if no document of events is begun. Allocates nothing.
+#[unsafe(no_mangle)]
+pub extern "C" fn rncv_events_held(alloc: Global, schema: &mut Handle, count: &mut usize) -> i32
+    ensures done { IfSome (events_in schema.old.held) (IsHeldBy count.new) }
+    ensures misuse { (result ≡ pos 4) ↔ (events_in schema.old.held ≡ None) }
+    ensures others { result ≢ pos 4 → result ≡ pos 0 }
+    ensures untold { result ≢ pos 0 → count.new ≡ count.old }
+    ensures kept { schema.new.held ≡ schema.old.held }
+{
+    match reasons::held(alloc, schema) {
+        Ok(held) => {
+            *count = held;
+            Status::Done.code()
+        }
+        Err(status) => status.code(),
+    }
 }
 
 /// Writes the printed simple form of the schema to the buffer if it fits, and reports its length in `count`.

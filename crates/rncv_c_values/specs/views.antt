@@ -4,5 +4,6 @@ pub mod Codes
 pub mod Datatypes
 pub mod Files
 pub mod Mentions
+pub mod Reasons
 pub mod Texts
 pub mod Told

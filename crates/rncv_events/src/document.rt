@@ -223,8 +223,8 @@ impl EventDocument {
     /// continuation is valid, if `invalid_since` returns one.
     ///
     /// It is stated on what is left of the pattern (`Expected`): an element or a datatype counts where its pattern stands.
-    /// After a text it is what may come behind that text; a blank text counts as nothing (section 6.2.7). Fails
-    /// only when this call, or an earlier one, is out of memory. Time and memory are linear in the number of patterns that
+    /// A text counts once a start or an end has come behind it: before that it is what may come in its place. Behind it, a
+    /// blank text counts as nothing (section 6.2.7). Fails only when this call, or an earlier one, is out of memory. Time and memory are linear in the number of patterns that
     /// the matcher keeps. RELAX NG Specification, sections 6.2 and 6.2.7.
     pub fn expected(&self) -> Result<Expected<'_>, OutOfMemory>
         ensures { IfOk result (λ e. (calls : List Event) (taken : HasTaken self.now calls)
@@ -259,9 +259,8 @@ impl EventDocument {
         Ok(tag)
     }
 
-    /// Returns what may come in place of the string since the last start or end, or could have come in place of the one before
-    /// the event after which no continuation is valid, if `invalid_since` returns one. If there is none, or it is blank, it is
-    /// what `expected` returns.
+    /// Returns what could have come in place of the string before the event after which no continuation is valid, if
+    /// `invalid_since` returns one. Otherwise, or if there is none or it is blank, it is what `expected` returns.
     ///
     /// Fails and costs as `expected` does. RELAX NG Specification, sections 6.2 and 6.2.7.
     pub fn expected_in_place(&self) -> Result<Expected<'_>, OutOfMemory>
@@ -281,8 +280,8 @@ impl EventDocument {
     /// something. If `invalid_since` returns a place, it is about what could have come before that event: if the event is this
     /// start, it is why no continuation is valid.
     ///
-    /// It is stated on what is left of the pattern (`Reason`). The calls that were taken stay. Fails only when out of memory,
-    /// in this call or in an earlier one. Then what is kept is unchanged, or each later call fails. Costs a copy of the name
+    /// It is stated on what is left of the pattern (`Reason`), as `expected` is. The calls that were taken stay. Fails only when
+    /// out of memory, in this call or in an earlier one. Then what is kept is unchanged, or each later call fails. Costs a copy of the name
     /// and the attributes, and what `MatcherState::start_reason` costs. RELAX NG Specification, sections 6.2.7 and 6.2.8.
     pub fn start_reason(
         &mut self,
@@ -317,8 +316,9 @@ impl EventDocument {
     /// returns a place, it is about what could have come before that event: if the event is an end, it is why no continuation
     /// is valid.
     ///
-    /// It is stated on what is left of the pattern (`Reason`). The calls that were taken stay. Fails only when out of memory,
-    /// in this call or in an earlier one; then later calls may fail too. Costs what `Matcher::may_end` and
+    /// It is stated on what is left of the pattern (`Reason`), as `expected` is: the end is one in place of a text that has come
+    /// since the last start or end. The calls that were taken stay. Fails only when out of memory, in this call or in an
+    /// earlier one; then later calls may fail too. Costs what `Matcher::may_end` and
     /// `MatcherState::end_reason` cost. RELAX NG Specification, section 6.2.7.
     pub fn end_reason(&mut self) -> Result<Option<Reason>, OutOfMemory>
         ensures knows { StillKnows self.old self.new }

@@ -94,6 +94,24 @@ typedef struct rncv_attribute {
     size_t value_length;
 } rncv_attribute;
 
+/* Why a start or an end leaves nothing (rncv_events_start_reason, rncv_events_end_reason). */
+typedef struct rncv_reason {
+    int32_t kind;       /* one of the kinds of a reason */
+    uint64_t attribute; /* RNCV_REASON_ATTRIBUTE, RNCV_REASON_VALUE: the index of the attribute, from 0; otherwise 0 */
+} rncv_reason;
+
+/* The kinds of a reason. */
+enum {
+    RNCV_REASON_NONE = 0,       /* it leaves something */
+    RNCV_REASON_ELEMENT = 1,    /* no element of the name may start, or each is one that nothing matches */
+    RNCV_REASON_ATTRIBUTE = 2,  /* the attribute is the first one that nothing takes which is left by those before it: it is not allowed */
+    RNCV_REASON_VALUE = 3,      /* the same, and an attribute of its name is left: its value is wrong */
+    RNCV_REASON_MISSING = 4,    /* all attributes are taken, and others are missing */
+    RNCV_REASON_TEXT = 5,       /* the text directly before may not be there: none may, or the start would leave something without it */
+    RNCV_REASON_TEXT_VALUE = 6, /* the text directly before an end is none of those that may be there, and no element may come behind it */
+    RNCV_REASON_INCOMPLETE = 7  /* the end comes too early */
+};
+
 /* The kinds of a verdict. */
 enum {
     RNCV_VALID = 0,
@@ -245,6 +263,30 @@ int32_t rncv_events_end(rncv_schema *schema, uint64_t place);
  * RNCV_MISUSE: no document of events is in progress; `place` is unchanged. Only one thread at a time may use the handle. */
 int32_t rncv_events_invalid_since(rncv_schema *schema, uint64_t *place);
 
+/* Writes to `held` how many bytes are held of the text behind the last start or end. They grow with the document: a caller that limits its memory asks after
+ * texts. None are held where the schema does not test what a text says. Allocates nothing.
+ *
+ * RNCV_MISUSE: no document of events is in progress; `held` is unchanged. Only one thread at a time may use the handle. */
+int32_t rncv_events_held(rncv_schema *schema, size_t *held);
+
+/* Writes to `reason` why a start of this name with these `count` attributes leaves nothing of what may come next, or that it leaves something. If no continuation
+ * is valid, it is about what could have come before the event after which none is: a caller that passes that start again gets why none is. Where alternatives
+ * exclude one another, the order of the attributes decides which one is told. The arguments are as for rncv_events_start. The document goes on as before.
+ *
+ * It is told by what is left of the pattern: that something is left does not say that it can be completed.
+ *
+ * RNCV_MALFORMED: a text is not UTF-8. RNCV_MEMORY: out of memory, or a call for the document was; later calls for it may return the same. RNCV_MISUSE: no
+ * document of events is in progress. Unless the status is RNCV_DONE, `reason` is unchanged. Only one thread at a time may use the handle. */
+int32_t rncv_events_start_reason(rncv_schema *schema, const uint8_t *uri, size_t uri_length, const uint8_t *local, size_t local_length,
+                                 const rncv_attribute *attributes, size_t count, rncv_reason *reason);
+
+/* Writes to `reason` why an end leaves nothing of what may come next, or RNCV_REASON_NONE exactly if the end of the innermost element may come. If no
+ * continuation is valid, it is about what could have come before the event after which none is. The document goes on as before.
+ *
+ * RNCV_MEMORY: out of memory, or a call for the document was; each later call for it returns the same. RNCV_MISUSE: no document of events is in progress.
+ * Unless the status is RNCV_DONE, `reason` is unchanged. Only one thread at a time may use the handle. */
+int32_t rncv_events_end_reason(rncv_schema *schema, rncv_reason *reason);
+
 /* Ends the document that came as events and writes the verdict on it to `verdict`: RNCV_BROKEN, with 0 and 0, if the calls are no document; RNCV_INVALID
  * with the place of a start or end, after which no continuation is valid; or RNCV_VALID. Then the handle holds the schema, for the next document. The
  * status is RNCV_DONE for every verdict.
@@ -289,6 +331,13 @@ int32_t rncv_expected(rncv_schema *schema, uint8_t *buffer, size_t size, size_t 
  * unchanged. The document goes on in each case. The caller owns `buffer`. Only one thread at a time may use the handle. */
 int32_t rncv_expected_tag(rncv_schema *schema, const uint8_t *uri, size_t uri_length, const uint8_t *local, size_t local_length, uint8_t *buffer, size_t size,
                           size_t *length);
+
+/* Writes what may come in place of the text behind the last start or end of the document of events in progress, as rncv_expected writes it, to `buffer`. If no
+ * continuation is valid, it is what could have come in place of the text before the event after which none is. If there is no such text, or a blank one, it is
+ * what rncv_expected writes.
+ *
+ * The statuses, and the rules for the caller, are those of rncv_expected; RNCV_MISUSE: no document of events is in progress. */
+int32_t rncv_expected_in_place(rncv_schema *schema, uint8_t *buffer, size_t size, size_t *length);
 
 /* Writes the simple form of the schema, as text, to `buffer`, which has `size` bytes, and the text's length to `length`. The text does not end in
  * a zero. `buffer` may be NULL if `size` is 0. Each call prints the form again.

@@ -1,0 +1,44 @@
+-- Why a start or an end leaves nothing of the document of events that a handle holds, and what is held of it.
+use Rattle.std.specs.Prelude.{◌≡◌, ⊤, ℕ, List, length, Option, None, false}
+use Rattle.rng_model.specs.matching.Document.{Attribute}
+use Rattle.rng_model.specs.matching.GrammarMatching.{reading_of}
+use Rattle.rng_model.specs.names.Names.{Name}
+use Rattle.rng_model.specs.documents.PyxTrees.{Event}
+use Rattle.rng_deriv.specs.views.Followers.{HasStartReason, MayReplace}
+use Rattle.rng_deriv.specs.views.Matchers.{trees_in}
+use Rattle.rng_deriv_events.specs.views.Inputs.{tests_strings}
+use Rattle.rng_expected.specs.Expectations.{Next}
+use Rattle.expected_text.specs.ExpectationText.{expectation_text}
+use Rattle.rng_reasons.specs.declared.reasons.Reason.{Reason}
+use Rattle.rncv_events.specs.views.Ending.{IsWhyNoEnd}
+use Rattle.rncv_events.specs.views.Told.{HasTaken, Judging, StillKnows}
+use Rattle.rncv_c_values.specs.views.Reasons.{reason_numbers}
+use Rattle.rncv_c_values.specs.declared.reasons.ReasonNumbers.{ReasonNumbers}
+
+-- the numbers tell what `EventDocument::start_reason` promises
+pub record TellsStartReason (q : Name) (xs : List Attribute) (told : ReasonNumbers) (old new : Judging) : Type 0 where
+  pub reason : Option Reason
+  pub is : (calls : List Event) (taken : HasTaken old calls)
+      → HasStartReason (reading_of old.grammar) old.matching.progress (trees_in new.matching) q xs reason taken.events
+  pub told_is : told ≡ reason_numbers reason
+  pub knows : StillKnows old new
+
+-- the numbers tell what `EventDocument::end_reason` promises
+pub record TellsEndReason (told : ReasonNumbers) (old new : Judging) : Type 0 where
+  pub reason : Option Reason
+  pub is : (calls : List Event) (taken : HasTaken old calls)
+      → IsWhyNoEnd (reading_of old.grammar) old.matching.progress new.matching.progress reason taken.events
+  pub told_is : told ≡ reason_numbers reason
+  pub knows : StillKnows old new
+
+-- so many bytes are held of the text behind the last start or end, and none where nothing tests what it says
+pub record IsHeldBy (count : ℕ) (d : Judging) : Type 0 where
+  pub count_is : count ≡ length d.calls.state.text
+  pub nothing : d.fault ≡ None → tests_strings d.matching.progress ≡ false → count ≡ 0
+
+-- the text of what may come in place of the string since the last start or end, as `EventDocument::expected_in_place`
+-- promises
+pub record IsReplacementText (d : Judging) (text : List ℕ) : Type 0 where
+  pub next : Next
+  pub replaces : (calls : List Event) (taken : HasTaken d calls) → MayReplace (reading_of d.grammar) d.matching.progress next taken.events
+  pub text_is : text ≡ expectation_text next
