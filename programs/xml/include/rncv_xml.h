@@ -193,8 +193,8 @@ int32_t rncv_xml_judge_open_with(const char *path, const rncv_xml_mapping *mappi
                                  rncv_xml_fault *fault);
 
 /* Makes a judge by a compiled schema, which is shared and not copied. `schema` is of the librncv that this library is linked to. `files` are those of the
- * schema: to find what is wrong at a place, their literals are tried. `files` may be NULL if `count` is 0. Then other values are tried, and the verdicts are
- * the same. What `judge` held is freed.
+ * schema: they name the datatypes of IDs, or have what rncv-profile says of these. `files` may be NULL if `count` is 0. Then IDs are not checked. What `judge`
+ * held is freed.
  *
  * RNCV_MEMORY: out of memory. RNCV_MISUSE: also if a document is in progress. Unless the status is RNCV_DONE, `judge` is unchanged. */
 int32_t rncv_xml_judge_new(rncv_schema *schema, const rncv_file *files, size_t count, rncv_xml_judge *judge);

@@ -1,6 +1,6 @@
 #include "alone.h"
 
-#include "probes.h"
+#include "telling.h"
 #include "text_table.h"
 #include "xml_names.h"
 
@@ -191,67 +191,46 @@ struct alone_telling {
     uint64_t number;         /* of starts and ends that were passed */
     uint32_t marks;          /* of children and texts that were passed */
     uint64_t child;          /* the number of the last child */
+    uint32_t member;         /* what the element is judged as, at its own start */
     struct finding found;
 };
 
-static struct event_log *log_of(const struct alone_telling *telling) {
-    return &telling->alone->judge->log;
-}
-
-static void log_declaration(struct event_log *log, const struct event_name *name) {
-    const struct event_declaration declaration = {name->prefix, name->uri};
-    event_log_declarations(log, &(struct start_event){.declarations = &declaration, .declaration_count = 1});
-}
-
-/* Begins the log with the declarations of the elements around, and the root. False: memory ran out. */
-static bool log_around(const struct alone *alone) {
+/* Takes the declarations of an element that is open, at this depth. False: memory ran out. */
+static bool enter_element(struct scope *scope, const struct element *element, size_t depth) {
+    struct log_reader reader;
     struct logged event;
-    char room[ROOT_BYTES];
-    bool is_good = true;
-    event_log_clear(&alone->judge->log);
-    for (size_t at = 0; at + 1 < alone->depth && is_good; at++) {
-        struct log_reader reader;
-        log_reader_open(&reader, &alone->elements[at].log, alone->elements[at].has_declarations ? alone->elements[at].log.bytes.length : 0);
-        while (log_reader_next(&reader, &event) && event.kind == LOGGED_DECLARATION) {
-            log_declaration(&alone->judge->log, &event.name);
-        }
-        is_good = !reader.failed;
-        log_reader_close(&reader);
+    log_reader_open(&reader, &element->log, element->has_declarations ? element->log.bytes.length : 0);
+    while (log_reader_next(&reader, &event) && event.kind == LOGGED_DECLARATION) {
+        scope_declare(scope, &(struct event_declaration){event.name.prefix, event.name.uri}, depth);
     }
-    struct event_name root = root_of(alone, room);
-    event_log_start(&alone->judge->log, &(struct start_event){.name = &root});
+    bool is_good = !reader.failed && !scope->failed;
+    log_reader_close(&reader);
     return is_good;
 }
 
-/* Puts the event into the log. */
-static void log_event(const struct alone_telling *telling, const struct logged *event) {
-    struct event_log *log = log_of(telling);
-    if (event->kind == LOGGED_DECLARATION) {
-        log_declaration(log, &event->name);
-    } else if (event->kind == LOGGED_TEXT) {
-        event_log_text(log, event->text);
-    } else if (event->kind == LOGGED_END) {
-        event_log_end(log);
-    } else {
-        size_t count = telling->alone->has_attributes ? event->count : 0;
-        event_log_start(log, &(struct start_event){.name = &event->name, .attributes = telling->reader.attributes, .attribute_count = count});
+/* Takes those of the elements that are open. False: memory ran out. */
+static bool enter_all(const struct alone *alone) {
+    struct scope *scope = &alone->judge->scope;
+    bool is_good = true;
+    scope_clear(scope);
+    for (size_t at = 0; at < alone->depth && is_good; at++) {
+        is_good = enter_element(scope, &alone->elements[at], at + 1);
     }
+    return is_good;
 }
 
-/* Keeps where the event is, before it is put into the log. */
+/* Keeps where the event is. */
 static void keep_place(struct alone_telling *telling, const struct logged *event) {
     const struct element *own = own_of(telling->alone);
     struct finding *found = &telling->found;
     bool is_own = event->kind == LOGGED_START && telling->number == 0;
     if (event->kind == LOGGED_TEXT) {
         found->has_text = true;
-        found->text_at = log_of(telling)->bytes.length;
         found->text_place = own->marks[telling->marks++].place;
         bytes_clear(&found->text);
         bytes_add(&found->text, event->text.data, event->text.length);
         return;
     }
-    found->at = log_of(telling)->bytes.length;
     if (event->kind == LOGGED_START) {
         found->place = is_own ? own->place : own->marks[telling->marks].place;
         telling->child = is_own ? 0 : own->marks[telling->marks].number;
@@ -269,7 +248,6 @@ static bool go_on(struct alone_telling *telling, uint64_t number) {
         telling->found.has_text = false;
     }
     keep_place(telling, event);
-    log_event(telling, event);
     telling->start = telling->number == 0 ? *event : telling->start;
     return pass(telling->alone, &telling->reader, event, &telling->number) == RNCV_DONE;
 }
@@ -278,7 +256,6 @@ static bool go_on(struct alone_telling *telling, uint64_t number) {
 static bool pass_end(struct alone_telling *telling) {
     const struct element *own = own_of(telling->alone);
     struct finding *found = &telling->found;
-    found->text_at = log_of(telling)->bytes.length;
     if (own->text.length > 0) {
         size_t begin = blanks_of((struct span){own->text.data, own->text.length});
         struct span shown = {own->text.data + begin, own->text.length - begin};
@@ -288,22 +265,10 @@ static bool pass_end(struct alone_telling *telling) {
         found->text_place = own->text_place;
         bytes_clear(&found->text);
         bytes_add(&found->text, shown.data, length);
-        event_log_text(log_of(telling), (struct span){own->text.data, own->text.length});
     }
     found->is_end = true;
     found->place = own->is_empty ? own->place : place_of(*telling->alone->end);
-    found->at = log_of(telling)->bytes.length;
-    event_log_end(log_of(telling));
     return pass_text(telling->alone) == RNCV_DONE && rncv_events_end(&telling->alone->judge->schema, ++telling->number) == RNCV_DONE;
-}
-
-static void set_name(struct finding *found, const struct event_name *name) {
-    bytes_add(&found->name, name->prefix.data, name->prefix.length);
-    bytes_add_text(&found->name, name->prefix.length > 0 ? ":" : "");
-    bytes_add(&found->name, name->local.data, name->local.length);
-    bytes_add(&found->expanded, name->uri.data, name->uri.length);
-    bytes_add(&found->expanded, name->local.data, name->local.length);
-    found->uri_length = name->uri.length;
 }
 
 /* The first line of the text, with its line feed. */
@@ -352,23 +317,60 @@ static bool get_tag(const struct alone *alone, struct finding *found) {
     return is_good;
 }
 
+/* How far a tag is taken: up to an attribute, or further if only its value is wrong, or to its end. */
+static uint64_t rank_of(const rncv_reason *reason) {
+    bool is_attribute = reason->kind == RNCV_REASON_ATTRIBUTE || reason->kind == RNCV_REASON_VALUE;
+    uint64_t rank = 2 * reason->attribute + (reason->kind == RNCV_REASON_VALUE ? 2 : 1);
+    return is_attribute ? rank : reason->kind == RNCV_REASON_MISSING ? UINT64_MAX : 0;
+}
+
+/* Begins again as the one of the elements that the element may be which takes most of its tag, and passes that. False: memory ran out. */
+static bool begin_best(struct alone_telling *telling) {
+    const struct alone *alone = telling->alone;
+    const struct declared *declared = &alone->judge->declared;
+    const struct event_name *name = &telling->event.name;
+    struct call_room *room = &alone->judge->room;
+    struct alone one = *alone;
+    uint64_t most = 0;
+    size_t count = alone->has_attributes ? telling->event.count : 0;
+    bool is_good = call_room_fill(room, telling->reader.attributes, count);
+    for (uint32_t at = 0; at < declared->only_count && is_good; at++) {
+        rncv_reason reason;
+        one.member = declared->only[at];
+        is_good = begin(&one) == RNCV_DONE && library_start_reason(&alone->judge->schema, name, room->attributes, count, &reason) == RNCV_DONE;
+        if (is_good && rank_of(&reason) > most) {
+            most = rank_of(&reason);
+            telling->member = one.member;
+        }
+    }
+    one.member = telling->member;
+    telling->number = 0;
+    return is_good && begin(&one) == RNCV_DONE && pass(&one, &telling->reader, &telling->event, &telling->number) == RNCV_DONE;
+}
+
 /* Passes all up to the start or end with this number, and notes what is there. False: memory ran out, or it is the end of a child, which has nothing in it. */
 static bool find_again(struct alone_telling *telling, uint64_t number) {
     struct finding *found = &telling->found;
-    bool is_good = log_around(telling->alone) && begin(telling->alone) == RNCV_DONE;
+    struct judge *judge = telling->alone->judge;
+    bool is_good = enter_all(telling->alone) && begin(telling->alone) == RNCV_DONE;
     while (is_good && go_on(telling, number)) {
     }
     bool is_start = telling->number == number && telling->event.kind == LOGGED_START;
     bool is_end = is_good && telling->number + 1 == number && pass_end(telling);
+    if (number == 1 && is_start && !begin_best(telling)) {
+        return false;
+    }
     if (telling->reader.failed || (!is_start && !is_end)) {
         return false;
     }
     found->is_there = true;
-    found->text_at = found->has_text || is_end ? found->text_at : found->at;
-    found->is_kept = !log_of(telling)->is_full && !log_of(telling)->bytes.failed;
-    set_name(found, is_start ? &telling->event.name : &telling->start.name);
-    bool is_told = expected_get(&telling->alone->judge->schema, &found->expected) && (number != 1 || get_tag(telling->alone, found));
-    return is_told && !found->name.failed && !found->expanded.failed && !found->text.failed;
+    finding_name(found, is_start ? &telling->event.name : &telling->start.name);
+    if (is_start && number > 1) {
+        add_written(&found->around, &telling->start.name);
+    }
+    size_t count = is_start && telling->alone->has_attributes ? telling->event.count : 0;
+    bool is_told = finding_ask(found, &judge->schema, &judge->room, telling->reader.attributes, count) && (number != 1 || get_tag(telling->alone, found));
+    return is_told && !found->text.failed && !found->around.failed;
 }
 
 static bool is_before(struct place place, struct place limit) {
@@ -379,11 +381,12 @@ uint64_t alone_tell(const struct alone *alone, uint64_t number, struct place lim
     struct alone_telling telling;
     memset(&telling, 0, sizeof telling);
     telling.alone = alone;
+    telling.member = alone->member;
     log_reader_open(&telling.reader, &own_of(alone)->log, own_of(alone)->log.bytes.length);
     if (find_again(&telling, number) && is_before(telling.found.place, limit)) {
         answer->verdict = VERDICT_INVALID;
         bytes_add_text(&answer->message, "hint");
-        probe(alone->judge, &telling.found, answer);
+        tell(alone->judge, &telling.found, answer);
     }
     log_reader_close(&telling.reader);
     finding_free(&telling.found);

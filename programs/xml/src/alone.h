@@ -2,6 +2,7 @@
 #ifndef ALONE_H
 #define ALONE_H
 
+#include "event_log.h"
 #include "judging.h"
 
 /* Where a child element, or a text before one, is. */

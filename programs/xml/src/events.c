@@ -13,7 +13,7 @@
 #include <string.h>
 
 enum {
-    LONG_TEXT = 65536,     /* a longer text is looked at for the memory that it takes */
+    ASKED_BYTES = 65536,   /* of texts, after which the receiver is asked how much it keeps */
     SEARCHED = 1000000000, /* namespaces that are looked at in any document */
     MOST_SEARCHED = 64,    /* and for each of its bytes, above that */
     COST_OF_DEFAULTS = 16  /* libxml2 compares each pair of attributes by default: so many pairs cost a byte */
@@ -24,7 +24,7 @@ struct reader {
     struct declarations declarations;
     struct event_sink sink;
     struct fault *fault;
-    struct start_event start; /* the last one */
+    struct start_event start; /* the last one, with what is open now as its depth */
     struct event_attribute *attributes; /* room for those of a tag */
     size_t attribute_capacity;
     struct event_declaration *declared; /* room for its declarations */
@@ -34,8 +34,8 @@ struct reader {
     bool has_undeclared; /* a name of it has a prefix that is not declared */
     bool is_unusual;     /* the next tag may be such a one, or elements may declare namespaces by default */
     bool is_empty;       /* the end of the last start tag is in it */
-    size_t depth;
     size_t most_depth;
+    size_t unasked;    /* the bytes of texts since the receiver was asked how much it keeps */
     uint64_t searched; /* how many open namespaces were looked at for names */
     struct parser_memory memory;
     struct known_names names; /* at the end, since most of it is not set at first */
@@ -71,13 +71,19 @@ static void flush(void *context) {
     }
 }
 
+/* Asks the receiver how much it keeps. */
+static void ask_held(struct reader *reader) {
+    reader->unasked = 0;
+    if (reader->sink.held != NULL) {
+        reader->feed.kept = reader->sink.held(reader->sink.context);
+    }
+}
+
 /* Does what is due before more of the document is read. */
 static void before_read(void *context) {
     struct reader *reader = context;
     flush(reader);
-    if (reader->sink.held != NULL) {
-        reader->feed.kept = reader->sink.held(reader->sink.context);
-    }
+    ask_held(reader);
 }
 
 /* Lets the receiver keep what it still needs of the events that came. */
@@ -148,12 +154,14 @@ static OUT_OF_LINE void take_any_text(struct reader *reader, const xmlChar *text
     if (length == 0) {
         return;
     }
-    reader->feed.unfinished += length;
-    if (reader->feed.unfinished > LONG_TEXT && feed_is_over(&reader->feed)) {
-        feed_check_memory(&reader->feed, place_of(position));
-        return;
-    }
     reader->sink.text(reader->sink.context, position, (struct span){(const char *)text, length}, has_raw);
+    reader->unasked += length;
+    if (reader->unasked > ASKED_BYTES) {
+        ask_held(reader);
+        if (feed_is_over(&reader->feed)) {
+            feed_check_memory(&reader->feed, place_of(position));
+        }
+    }
 }
 
 /* Takes a piece of text. This is called most often: if the piece is usual, no registers are saved, and nothing is called before the receiver. */
@@ -163,11 +171,11 @@ static void take_text(void *context, const xmlChar *text, int size) {
     if (!is_good(reader)) {
         return;
     }
-    if (length == 0 || reader->feed.unfinished + length > LONG_TEXT || !is_raw(reader, text)) {
+    if (length == 0 || reader->unasked + length > ASKED_BYTES || !is_raw(reader, text)) {
         take_any_text(reader, text, length);
         return;
     }
-    reader->feed.unfinished += length;
+    reader->unasked += length;
     reader->sink.text(reader->sink.context, raw_position(reader, text, length), (struct span){(const char *)text, length}, true);
 }
 
@@ -307,8 +315,8 @@ static void check_names(struct reader *reader, const struct start_event *start) 
 
 /* Counts an element that is open. */
 static void count_open(struct reader *reader) {
-    reader->depth++;
-    if (reader->depth > reader->most_depth) {
+    reader->start.depth++;
+    if (reader->start.depth > reader->most_depth) {
         struct bytes count = NO_BYTES;
         bytes_add_count(&count, reader->most_depth);
         fault_set(reader->fault, FAULT_OUTSIDE, place_of(reader->start.position),
@@ -368,14 +376,15 @@ static OUT_OF_LINE void take_any_start(void *context, const xmlChar *local, cons
     }
     count_open(reader);
     count_costs(reader, attribute_count, default_count, attributes);
-    reader->feed.unfinished = 0;
     add_attributes(reader, start, attribute_count, attributes);
     start->name = name_of(reader, local, prefix, uri);
+    start->has_fleeting_name = start->name == &reader->names.other;
     add_declarations(reader, start, namespace_count, namespaces);
     if (is_good(reader)) {
         hand_start(reader, start);
     }
     keep_name(reader, start->name);
+    start->has_fleeting_name = false;
     reader->has_double = false;
     reader->has_undeclared = false;
     reader->is_unusual = reader->declarations.default_count > 0;
@@ -385,15 +394,14 @@ static OUT_OF_LINE void take_any_start(void *context, const xmlChar *local, cons
  * counted of namespaces after it. */
 static inline bool is_usual_start(const struct reader *reader, bool is_named, int namespace_count, int default_count, uint64_t searched) {
     bool is_plain = is_named && namespace_count == 0 && default_count == 0 && !reader->is_unusual;
-    return is_plain && is_in_content(reader) && reader->depth < reader->most_depth && searched <= SEARCHED;
+    return is_plain && is_in_content(reader) && reader->start.depth < reader->most_depth && searched <= SEARCHED;
 }
 
 /* Hands a usual start to the receiver, whose attributes are set. */
 static inline void hand_usual_start(struct reader *reader, const struct event_name *name, size_t attribute_count, uint64_t searched) {
     set_tag(reader);
-    reader->depth++;
+    reader->start.depth++;
     reader->searched = searched;
-    reader->feed.unfinished = 0;
     reader->start.name = name;
     reader->start.declaration_count = 0;
     reader->start.attribute_count = attribute_count;
@@ -459,8 +467,7 @@ static inline struct position end_position(struct reader *reader) {
 
 /* Hands an end to the receiver. */
 static inline void hand_end(struct reader *reader, struct position position, const struct event_name *name) {
-    reader->depth--;
-    reader->feed.unfinished = 0;
+    reader->start.depth--;
     reader->sink.end(reader->sink.context, position, name);
 }
 

@@ -19,7 +19,8 @@ struct place place_of(struct position position);
 /* The place of one that came since `keep`, in any order. */
 struct place earlier_place_of(struct position position);
 
-/* A name. Its texts are there until the receiver returns from `keep`, and their data is never NULL. */
+/* A name. It is there until the receiver returns from `keep`, and its texts until the document has been read, unless the event says otherwise. Their data is
+ * never NULL. */
 struct event_name {
     struct span prefix; /* as it is written; empty: there is none */
     struct span local;
@@ -40,6 +41,8 @@ struct event_declaration {
 struct start_event {
     struct position position;
     const struct event_name *name;
+    bool has_fleeting_name; /* its texts are there until the receiver returns from `keep` */
+    size_t depth;           /* how many elements are open, with this one */
     const struct event_declaration *declarations; /* also those that are there by default */
     size_t declaration_count;
     const struct event_attribute *attributes; /* without the declarations */

@@ -7,15 +7,24 @@
 
 enum { FIRST_BYTES = 1024, MOST_INSIDE = 8 };
 
-bool expected_get(rncv_schema *schema, struct bytes *written) {
+/* Gets the text that one of these two writes. */
+static bool get(int32_t (*write)(rncv_schema *, uint8_t *, size_t, size_t *), rncv_schema *schema, struct bytes *written) {
     size_t length = FIRST_BYTES;
     int32_t status = RNCV_SPACE;
     bytes_clear(written);
     while (status == RNCV_SPACE && bytes_reserve(written, length)) {
-        status = rncv_expected(schema, (uint8_t *)written->data, written->capacity, &length);
+        status = write(schema, (uint8_t *)written->data, written->capacity, &length);
     }
     written->length = status == RNCV_DONE ? length : 0;
     return status == RNCV_DONE;
+}
+
+bool expected_get(rncv_schema *schema, struct bytes *written) {
+    return get(rncv_expected, schema, written);
+}
+
+bool expected_get_in_place(rncv_schema *schema, struct bytes *written) {
+    return get(rncv_expected_in_place, schema, written);
 }
 
 bool expected_get_tag(rncv_schema *schema, struct span uri, struct span local, struct bytes *written) {

@@ -48,6 +48,9 @@ bool expected_get(rncv_schema *schema, struct bytes *written);
 /* Gets the text of what the tag of an element of this name may have, if it starts next in the document in progress. False: memory ran out. */
 bool expected_get_tag(rncv_schema *schema, struct span uri, struct span local, struct bytes *written);
 
+/* Gets the text of what could have come in place of the text directly before the event after which nothing can follow. False: memory ran out. */
+bool expected_get_in_place(rncv_schema *schema, struct bytes *written);
+
 /* Reads such a text. False: memory ran out. Close it in each case. */
 bool expected_open(struct expected *expected, struct span written);
 void expected_close(struct expected *expected);

@@ -226,7 +226,7 @@ static void forget(struct feed *feed) {
 }
 
 bool feed_is_over(const struct feed *feed) {
-    return parser_memory_held() + feed->text.capacity + feed->room.capacity + feed->unfinished + feed->kept > feed->most;
+    return parser_memory_held() + feed->text.capacity + feed->room.capacity + feed->kept > feed->most;
 }
 
 void feed_check_memory(struct feed *feed, struct place place) {

@@ -50,8 +50,7 @@ struct feed {
     struct place long_place;
     char long_mark[MARK_BYTES]; /* .. but its place and its first bytes */
     size_t most;        /* the bytes that may be held of the document */
-    size_t unfinished;  /* the bytes of the text that the receiver has not seen the end of */
-    size_t kept;        /* the bytes that the receiver keeps otherwise */
+    size_t kept;        /* the bytes that the receiver keeps, when it was asked last */
     void (*keep)(void *context);        /* is called before text that was read is forgotten */
     void (*before_read)(void *context); /* is called before more of the document is read, which may take long */
     void *context;

@@ -1,7 +1,8 @@
 #include "judging.h"
 
-#include "probes.h"
+#include "finding.h"
 #include "second_reading.h"
+#include "telling.h"
 
 #include <inttypes.h>
 #include <stdlib.h>
@@ -9,7 +10,7 @@
 
 enum {
     MOST_NOTES = 100,
-    MOST_STEPS = 16, /* starts and ends after which the library is asked whether something valid can follow */
+    MOST_STEPS = 32, /* starts and ends after which the library is asked whether something valid can follow */
     TEXT_BYTES = 512 /* kept of a text: enough for what is shown of it */
 };
 
@@ -19,9 +20,8 @@ struct gap_is {
     bool tag : 1;    /* the start tag before: nothing comes behind it */
     bool raw : 1;    /* the text is only in the document so far, and not kept */
     bool cut : 1;    /* no more of the text is kept */
-    bool begun : 1;  /* what is kept of it begins with a character that is no blank */
-    bool logged : 1; /* `text_at` says where it begins in the log; else it is not there */
-    bool known : 1;  /* the judging knows the place of its position */
+    bool begun : 1; /* what is kept of it begins with a character that is no blank */
+    bool known : 1; /* the judging knows the place of its position */
 };
 
 /* What is directly before a start or an end: a text, the start tag before, or neither. */
@@ -29,7 +29,6 @@ struct gap {
     struct position position;
     size_t kept_at; /* where the text begins in the judge's `text`, .. */
     size_t kept;    /* .. and how many bytes are there */
-    size_t text_at;
     struct gap_is is;
 };
 
@@ -39,9 +38,7 @@ struct step {
     struct gap gap; /* before it */
     struct position position;
     const struct event_name *name;
-    size_t at; /* where it begins in the log, if it is there */
-    bool is_end;
-    bool is_logged; /* it is in the log, with all before it */
+    size_t depth; /* of a start: how many elements are open then; 0: it is an end */
 };
 
 /* A document that is being judged. */
@@ -56,9 +53,12 @@ struct judging {
     uint64_t found_number; /* of the one at which the document is invalid */
     struct step steps[MOST_STEPS + 1]; /* those that the library was not asked about, .. */
     struct step *next; /* .. and the one that comes next */
+    size_t open;         /* how many elements are open before the first of them */
     struct place before; /* the place that the first gap knows */
+    const struct start_event *start; /* the start that was passed last, if it is at hand; else NULL */
+    size_t usual_depth; /* a start that is deeper is a usual one: no scope has ended before it, the document is valid so far, and has no IDs */
     bool has_ids;    /* IDs are checked */
-    bool is_usual;   /* as most of a large document: valid so far, behind what the log has, and without IDs */
+    bool is_usual;   /* the document is valid so far, and has no IDs */
     bool has_begun; /* a byte of the document was read, and this is the first one */
     char first;
 };
@@ -73,7 +73,7 @@ bool judge_open(struct judge *judge, struct shared *shared) {
 void judge_close(struct judge *judge) {
     rncv_schema_free(&judge->schema);
     declared_close(&judge->declared);
-    event_log_free(&judge->log);
+    scope_free(&judge->scope);
     call_room_free(&judge->room);
     bytes_free(&judge->text);
     id_check_close(&judge->ids);
@@ -124,12 +124,6 @@ static OUT_OF_LINE void is_not_taken(struct judging *judging, int32_t status) {
         fault_set(judging->fault, FAULT_DEVICE, (struct place){0, 0}, "the library refuses what libxml2 has read");
     }
     out_of_memory(judging);
-}
-
-static void add_written(struct bytes *written, const struct event_name *name) {
-    bytes_add(written, name->prefix.data, name->prefix.length);
-    bytes_add_text(written, name->prefix.length > 0 ? ":" : "");
-    bytes_add(written, name->local.data, name->local.length);
 }
 
 static size_t blanks_of(struct span text) {
@@ -214,39 +208,70 @@ static void note_text(struct judging *judging, struct gap *gap) {
     drop_blanks(judging, gap);
     struct span text = kept_text(judging, gap);
     found->has_text = text.length > 0;
-    found->text_at = gap->is.logged ? gap->text_at : judging->judge->log.bytes.length;
     found->is_cut = gap->is.cut;
     bytes_add(&found->text, text.data, text.length);
 }
 
-/* Notes what is at the start or end after which nothing valid can follow. A fault of an element without content is reported where its tag begins. */
+/* How many elements are open at a step, with its own. */
+static size_t depth_of(const struct judging *judging, const struct step *step) {
+    size_t open = judging->open;
+    for (const struct step *at = judging->steps; at < step; at++) {
+        open = at->depth > 0 ? at->depth : open - 1;
+    }
+    return step->depth > 0 ? step->depth : open;
+}
+
+/* Notes the name of the element that a start is in. It is still open, or a later step is its end. */
+static void note_around(struct judging *judging, const struct step *start) {
+    size_t open = start->depth;
+    for (const struct step *step = start + 1; step < judging->next; step++) {
+        if (step->depth == 0 && open < start->depth) {
+            add_written(&judging->found.around, step->name);
+            return;
+        }
+        open = step->depth > 0 ? step->depth : open - 1;
+    }
+    if (start->depth > 1 && start->depth - 1 <= MOST_NAMED) {
+        const struct open_name *name = &judging->judge->open[start->depth - 2];
+        add_written(&judging->found.around, &(struct event_name){name->prefix, name->local, {"", 0}});
+    }
+}
+
+/* Notes what is at the start or end after which nothing valid can follow. A fault of an element without content is reported where its tag begins. Only the last
+ * step may have attributes: the library is asked at once after a start that has some. */
 static bool note_finding(struct judging *judging, struct step *step) {
+    struct judge *judge = judging->judge;
     struct finding *found = &judging->found;
-    const struct event_name *name = step->name;
-    found->is_end = step->is_end;
-    found->is_kept = step->is_logged;
-    found->at = step->is_logged ? step->at : judging->judge->log.bytes.length;
-    found->text_at = found->at;
+    const struct start_event *start = step + 1 == judging->next ? judging->start : NULL;
+    size_t depth = depth_of(judging, step);
+    found->is_end = step->depth == 0;
     if (step->gap.is.text || step->gap.is.tag) {
         found->text_place = step->gap.is.known ? judging->before : earlier_place_of(step->gap.position);
     }
     if (step->gap.is.text) {
         note_text(judging, &step->gap);
     }
-    found->place = step->is_end && step->gap.is.tag ? found->text_place : earlier_place_of(step->position);
-    add_written(&found->name, name);
-    found->uri_length = name->uri.length;
-    bytes_add(&found->expanded, name->uri.data, name->uri.length);
-    bytes_add(&found->expanded, name->local.data, name->local.length);
-    bool is_told = expected_get(&judging->judge->schema, &found->expected) &&
-                   (found->is_end || expected_get_tag(&judging->judge->schema, name->uri, name->local, &found->tag));
-    return is_told && !found->name.failed && !found->expanded.failed && !found->text.failed && !judging->judge->text.failed;
+    found->place = found->is_end && step->gap.is.tag ? found->text_place : earlier_place_of(step->position);
+    finding_name(found, step->name);
+    if (!found->is_end) {
+        note_around(judging, step);
+    }
+    bool is_told = finding_ask(found, &judge->schema, &judge->room, start == NULL ? NULL : start->attributes, start == NULL ? 0 : start->attribute_count);
+    scope_keep(&judge->scope, !found->is_end && finding_is_text(found) ? depth - 1 : depth);
+    return is_told && !found->text.failed && !found->around.failed && !judge->text.failed;
 }
 
 /* Begins again with the step that comes next. */
 static void begin_steps(struct judging *judging) {
     struct bytes *kept = &judging->judge->text;
     struct step *first = &judging->steps[0];
+    const struct step *last = judging->next;
+    size_t ends = 0;
+    while (last > first && last[-1].depth == 0) {
+        last--;
+        ends++;
+    }
+    judging->open = (last > first ? last[-1].depth : judging->open) - ends;
     *first = *judging->next;
     bytes_cut_front(kept, kept_text(judging, &first->gap).length > 0 ? first->gap.kept_at : kept->length);
     first->gap.kept_at = 0;
@@ -270,6 +295,7 @@ static void look(struct judging *judging) {
     }
     uint64_t before = judging->number - passed;
     judging->is_usual = false;
+    judging->usual_depth = SIZE_MAX;
     judging->found.is_there = true;
     judging->found.is_lost = since <= before || since > judging->number; /* the place of another one is not known */
     judging->found_number = judging->found.is_lost ? 0 : since;
@@ -299,24 +325,13 @@ static inline bool has_room(const struct judging *judging) {
 }
 
 /* Ends the step of a start or an end, and begins the next one. */
-static inline void end_step(struct judging *judging, struct position position, const struct event_name *name, bool is_end) {
+static inline void end_step(struct judging *judging, struct position position, const struct event_name *name, size_t depth, bool is_end) {
     struct step *step = judging->next++;
     step->position = position;
     step->name = name;
-    step->is_end = is_end;
-    step->is_logged = false;
+    step->depth = depth;
     judging->next->gap.position = position;
     judging->next->gap.is = (struct gap_is){.tag = !is_end};
-}
-
-/* Does the same if the step may be in the log, where it begins at `at`. */
-static void end_any_step(struct judging *judging, struct position position, const struct event_name *name, bool is_end, size_t at) {
-    struct step *step = judging->next;
-    bool is_logged = !judging->judge->log.is_full;
-    end_step(judging, position, name, is_end);
-    step->at = at;
-    step->is_logged = is_logged;
-    judging->is_usual = !is_logged && !judging->has_ids;
 }
 
 /* Passes a start to the library. False: it is not taken. */
@@ -329,23 +344,56 @@ static OUT_OF_LINE bool pass_start(struct judging *judging, const struct start_e
     return status == RNCV_DONE;
 }
 
-/* Takes any start. */
+/* Passes a start with attributes, and asks at once whether something valid can follow it: if not, the library is asked why, with the attributes. */
+static OUT_OF_LINE void pass_attributes(struct judging *judging, const struct start_event *start) {
+    uint64_t since = 0;
+    bool is_taken = pass_start(judging, start);
+    if (is_taken && (rncv_events_invalid_since(&judging->judge->schema, &since) != RNCV_DONE || since != 0)) {
+        judging->start = start;
+        look(judging);
+        judging->start = NULL;
+    }
+}
+
+/* Keeps the name of an element that starts, so far as there is room. */
+static inline void enter(struct judging *judging, const struct start_event *start) {
+    if (start->depth <= MOST_NAMED) {
+        judging->judge->open[start->depth - 1] = (struct open_name){start->name->prefix, start->name->local};
+    }
+}
+
+/* Does the same for any element, and takes the namespaces that it declares. */
+static void enter_any(struct judging *judging, const struct start_event *start) {
+    static const struct open_name none = {{"", 0}, {"", 0}};
+    struct scope *scope = &judging->judge->scope;
+    enter(judging, start);
+    if (start->has_fleeting_name && start->depth <= MOST_NAMED) {
+        judging->judge->open[start->depth - 1] = none;
+    }
+    scope_keep(scope, start->depth - 1);
+    for (size_t at = 0; at < start->declaration_count; at++) {
+        scope_declare(scope, &start->declarations[at], start->depth);
+    }
+    if (scope->failed) {
+        out_of_memory(judging);
+    }
+    judging->usual_depth = judging->has_ids ? SIZE_MAX : scope_depth(scope);
+}
+
+/* Takes any start. What was passed before it is looked at first, as long as the namespaces are those that were declared there. */
 static OUT_OF_LINE void take_any_start(struct judging *judging, const struct start_event *start) {
     struct judge *judge = judging->judge;
-    if (!has_room(judging)) {
+    bool is_scope_other = start->declaration_count > 0 || start->depth <= scope_depth(&judge->scope);
+    if (!has_room(judging) || is_scope_other) {
         look(judging);
     }
     if (judging->found.is_there) {
         pass_start(judging, start);
         return;
     }
-    event_log_declarations(&judge->log, start);
-    size_t at = judge->log.bytes.length;
-    event_log_start(&judge->log, start);
-    if (!pass_start(judging, start)) {
-        return;
-    }
-    end_any_step(judging, start->position, start->name, false, at);
+    enter_any(judging, start);
+    end_step(judging, start->position, start->name, start->depth, false);
+    pass_attributes(judging, start);
     if (judging->has_ids && !id_check_take(&judge->ids, start)) {
         out_of_memory(judging);
     }
@@ -355,13 +403,15 @@ static OUT_OF_LINE void take_any_start(struct judging *judging, const struct sta
  * take_any_end, and at the end of the document. */
 static void take_start(void *context, const struct start_event *start) {
     struct judging *judging = context;
-    if (!judging->is_usual || !has_room(judging)) {
+    bool is_usual = start->depth > judging->usual_depth && start->declaration_count == 0 && !start->has_fleeting_name;
+    if (!is_usual || !has_room(judging)) {
         take_any_start(judging, start);
         return;
     }
-    end_step(judging, start->position, start->name, false);
+    enter(judging, start);
+    end_step(judging, start->position, start->name, start->depth, false);
     if (start->attribute_count > 0) {
-        pass_start(judging, start);
+        pass_attributes(judging, start);
     } else {
         library_tag(&judging->judge->schema, ++judging->number, start->name, NULL, 0);
     }
@@ -371,8 +421,7 @@ static void take_start(void *context, const struct start_event *start) {
 static void keep_piece(struct judging *judging, struct position position, struct span text, bool is_raw) {
     struct gap *gap = &judging->next->gap;
     if (!gap->is.text) {
-        gap->is = (struct gap_is){.text = true, .raw = is_raw, .logged = true};
-        gap->text_at = judging->judge->log.bytes.length;
+        gap->is = (struct gap_is){.text = true, .raw = is_raw};
         gap->kept_at = judging->judge->text.length;
         gap->kept = 0;
     } else {
@@ -393,7 +442,6 @@ static OUT_OF_LINE void take_any_text(struct judging *judging, struct position p
     struct judge *judge = judging->judge;
     if (!judging->found.is_there) {
         keep_piece(judging, position, text, is_raw);
-        event_log_text(&judge->log, text);
     }
     int32_t status = library_text(&judge->schema, text);
     if (status != RNCV_DONE) {
@@ -420,15 +468,11 @@ static OUT_OF_LINE void take_any_end(struct judging *judging, struct position po
     if (!has_room(judging)) {
         look(judging);
     }
-    size_t at = judge->log.bytes.length;
-    if (!judging->found.is_there) {
-        event_log_end(&judge->log);
-    }
     int32_t status = rncv_events_end(&judge->schema, ++judging->number);
     if (status != RNCV_DONE) {
         is_not_taken(judging, status);
     } else if (!judging->found.is_there) {
-        end_any_step(judging, position, name, true, at);
+        end_step(judging, position, name, 0, true);
     }
 }
 
@@ -439,7 +483,7 @@ static void take_end(void *context, struct position position, const struct event
         take_any_end(judging, position, name);
         return;
     }
-    end_step(judging, position, name, true);
+    end_step(judging, position, name, 0, true);
     rncv_events_end(&judging->judge->schema, ++judging->number);
 }
 
@@ -452,9 +496,12 @@ static void take_instruction(void *context, struct position position, struct spa
     judging->next->gap.is.tag = false;
 }
 
-/* The bytes that grow with the document: those of the IDs. */
+/* The bytes that grow with the document: those of the IDs, the namespaces, and a text that the schema tests. */
 static size_t held(const void *context) {
-    return id_check_held(&((const struct judging *)context)->judge->ids);
+    struct judge *judge = ((const struct judging *)context)->judge;
+    size_t text = 0;
+    rncv_events_held(&judge->schema, &text);
+    return id_check_held(&judge->ids) + scope_held(&judge->scope) + text;
 }
 
 static void take_note(void *context, struct place place, const char *what) {
@@ -493,7 +540,7 @@ static void answer_invalid(struct judging *judging) {
     struct answer *answer = judging->answer;
     answer->verdict = VERDICT_INVALID;
     bytes_add_text(&answer->message, "invalid");
-    probe(judging->judge, &judging->found, answer);
+    tell(judging->judge, &judging->found, answer);
 }
 
 /* Answers for a document that is valid by the schema: its IDs may be wrong. */
@@ -632,7 +679,9 @@ static void judge_either(struct judge *judge, const struct byte_source *given, c
     judging.verdict.kind = -1;
     judging.next = judging.steps;
     judging.has_ids = judge->shared->ids != NULL;
-    event_log_clear(&judge->log);
+    judging.is_usual = !judging.has_ids;
+    judging.usual_depth = judging.has_ids ? SIZE_MAX : 0;
+    scope_clear(&judge->scope);
     if (judge->text.failed) {
         bytes_free(&judge->text);
     }

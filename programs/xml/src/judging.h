@@ -3,10 +3,10 @@
 #define JUDGING_H
 
 #include "declared.h"
-#include "event_log.h"
 #include "id_check.h"
 #include "library_calls.h"
 #include "program.h"
+#include "scope.h"
 #include "shown.h"
 
 #include <rncv.h>
@@ -80,8 +80,6 @@ struct second;
 /* What all judges share. */
 struct shared {
     rncv_schema schema;
-    const char *const *values; /* texts to try instead of an attribute's value, to find a wrong one */
-    size_t value_count;
     const struct id_types *ids; /* the attributes with an ID-type; NULL: IDs are not checked */
     uint32_t datatypes; /* the set that the schema was compiled with; if it is another one, words about a place may be others */
     struct streams streams;
@@ -99,16 +97,25 @@ struct shared {
     void *context;
 };
 
+enum { MOST_NAMED = 256 }; /* of open elements whose names are kept */
+
+/* The name of an open element, as it is written. */
+struct open_name {
+    struct span prefix;
+    struct span local;
+};
+
 /* A judge: one for each thread. */
 struct judge {
     struct shared *shared;
     rncv_schema schema;
     struct declared declared; /* the attributes of the schema */
-    struct event_log log; /* the first events of the document, to try changes to it */
+    struct scope scope; /* the namespaces that are declared at the last start; once the document is invalid, there */
     struct call_room room;
     struct bytes text; /* the first characters of texts directly before the last starts and ends, if they came in pieces */
     struct id_check ids;
     struct second *second; /* what hints need, once a document was invalid; NULL: nothing yet */
+    struct open_name open[MOST_NAMED]; /* the elements that are open, the root first; those behind them have ended */
 };
 
 /* False: out of memory. */

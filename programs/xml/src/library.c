@@ -18,19 +18,17 @@
 #include <string.h>
 #include <unistd.h>
 
-/* What all judges by one schema have in common: the values that they try, and the attributes with an ID-type. The last judge frees it. */
-struct values {
+/* What all judges by one schema have in common. The last one frees it. */
+struct common {
     atomic_size_t owners;
-    char **list;
-    size_t count;
-    struct id_types *ids;  /* NULL: there are none */
-    struct bytes unsound;  /* why they are not checked; empty if they are */
-    uint32_t datatypes;    /* that the schema was compiled with */
+    struct id_types *ids; /* the attributes with an ID-type; NULL: there are none */
+    struct bytes unsound; /* why they are not checked; empty if they are */
+    uint32_t datatypes;   /* that the schema was compiled with */
 };
 
 /* What a judge's handle holds. */
 struct held {
-    struct values *values;
+    struct common *common;
     struct shared shared; /* `schema` is for making other judges */
     struct judge judge;
     struct answer answer; /* the last one */
@@ -63,36 +61,28 @@ static void no_tick(void *context) {
     (void)context;
 }
 
-static void values_let_go(struct values *values) {
-    if (values == NULL || atomic_fetch_sub(&values->owners, 1) > 1) {
+static void common_let_go(struct common *common) {
+    if (common == NULL || atomic_fetch_sub(&common->owners, 1) > 1) {
         return;
     }
-    for (size_t at = 0; at < values->count; at++) {
-        free(values->list[at]);
-    }
-    free(values->list);
-    schema_ids_free(values->ids);
-    bytes_free(&values->unsound);
-    free(values);
+    schema_ids_free(common->ids);
+    bytes_free(&common->unsound);
+    free(common);
 }
 
-/* Takes the values out of the files of a schema, and reads its ID-types. NULL: out of memory. */
-static struct values *values_of(rncv_schema *schema, uint32_t datatypes, struct schema_files *files) {
-    struct values *values = calloc(1, sizeof *values);
-    if (values == NULL) {
+/* Reads the ID-types of a schema. NULL: out of memory. */
+static struct common *common_of(rncv_schema *schema, uint32_t datatypes, const struct schema_files *files) {
+    struct common *common = calloc(1, sizeof *common);
+    if (common == NULL) {
         return NULL;
     }
-    atomic_init(&values->owners, 1);
-    values->datatypes = datatypes;
-    values->list = files->values;
-    values->count = files->value_count;
-    files->values = NULL;
-    files->value_count = 0;
-    if (!schema_ids_read(schema, files, &values->ids, &values->unsound)) {
-        values_let_go(values);
+    atomic_init(&common->owners, 1);
+    common->datatypes = datatypes;
+    if (!schema_ids_read(schema, files, &common->ids, &common->unsound)) {
+        common_let_go(common);
         return NULL;
     }
-    return values;
+    return common;
 }
 
 static void held_free(struct held *held) {
@@ -101,26 +91,24 @@ static void held_free(struct held *held) {
         rncv_schema_free(&held->shared.schema);
         answer_free(&held->answer);
         bytes_free(&held->notes);
-        values_let_go(held->values);
+        common_let_go(held->common);
         free(held);
     }
 }
 
-/* Makes a judge and puts it into the handle. Owns `values`, even if it fails. */
-static int32_t hold(rncv_schema *schema, struct values *values, rncv_xml_judge *judge) {
+/* Makes a judge and puts it into the handle. Owns `common`, even if it fails. */
+static int32_t hold(rncv_schema *schema, struct common *common, rncv_xml_judge *judge) {
     struct held *held = calloc(1, sizeof *held);
     if (held == NULL) {
-        values_let_go(values);
+        common_let_go(common);
         return RNCV_MEMORY;
     }
-    held->values = values;
+    held->common = common;
     held->answer = (struct answer)NO_ANSWER;
     held->shared.page = CLAUSE_PAGE;
     held->shared.wants_earlier = true;
-    held->shared.values = (const char *const *)values->list;
-    held->shared.value_count = values->count;
-    held->shared.ids = values->ids;
-    held->shared.datatypes = values->datatypes;
+    held->shared.ids = common->ids;
+    held->shared.datatypes = common->datatypes;
     held->shared.tick = no_tick;
     atomic_init(&held->shared.bytes_read, 0);
     int32_t status = rncv_schema_share(schema, &held->shared.schema);
@@ -420,8 +408,8 @@ static int32_t open_judge(rncv_xml_files *files, uint32_t datatypes, rncv_xml_ju
         rncv_xml_files_explain_with(files, &refused, datatypes, fault);
     }
     if (status == RNCV_DONE) {
-        struct values *values = values_of(&schema, datatypes, &((struct found *)files->hidden)->files);
-        status = values == NULL ? RNCV_MEMORY : hold(&schema, values, judge);
+        struct common *common = common_of(&schema, datatypes, &((struct found *)files->hidden)->files);
+        status = common == NULL ? RNCV_MEMORY : hold(&schema, common, judge);
     }
     rncv_schema_free(&schema);
     return status;
@@ -450,7 +438,7 @@ int32_t rncv_xml_judge_new_with(rncv_schema *schema, const rncv_file *files, siz
         return RNCV_MISUSE;
     }
     struct schema_files read;
-    struct values *values = NULL;
+    struct common *common = NULL;
     rncv_schema own = RNCV_NOTHING;
     int32_t status = rncv_schema_share(schema, &own);
     if (status != RNCV_DONE) {
@@ -458,13 +446,13 @@ int32_t rncv_xml_judge_new_with(rncv_schema *schema, const rncv_file *files, siz
     }
     bool is_good = schema_files_collect(&read, &(struct schema_request){NULL, 0, NULL, 0, NULL, NULL, false, false, 0});
     for (size_t at = 0; at < count && is_good; at++) {
-        is_good = files[at].length == 0 || schema_files_add_values(&read, (const char *)files[at].bytes, files[at].length);
+        is_good = files[at].length == 0 || schema_files_take_text(&read, (const char *)files[at].bytes, files[at].length);
     }
     if (is_good) {
-        values = values_of(&own, datatypes, &read);
+        common = common_of(&own, datatypes, &read);
     }
     schema_files_free(&read);
-    status = values == NULL ? RNCV_MEMORY : hold(&own, values, judge);
+    status = common == NULL ? RNCV_MEMORY : hold(&own, common, judge);
     rncv_schema_free(&own);
     return status;
 }
@@ -478,8 +466,8 @@ int32_t rncv_xml_judge_share(rncv_xml_judge *judge, rncv_xml_judge *other) {
         return RNCV_MISUSE;
     }
     struct held *held = judge->hidden;
-    atomic_fetch_add(&held->values->owners, 1);
-    return hold(&held->shared.schema, held->values, other);
+    atomic_fetch_add(&held->common->owners, 1);
+    return hold(&held->shared.schema, held->common, other);
 }
 
 int32_t rncv_xml_judge_ids(rncv_xml_judge *judge, int32_t wanted) {
@@ -487,7 +475,7 @@ int32_t rncv_xml_judge_ids(rncv_xml_judge *judge, int32_t wanted) {
     if (held == NULL || is_busy(judge)) {
         return RNCV_MISUSE;
     }
-    held->shared.ids = wanted != 0 ? held->values->ids : NULL;
+    held->shared.ids = wanted != 0 ? held->common->ids : NULL;
     held->judge.ids.types = held->shared.ids;
     return RNCV_DONE;
 }
@@ -540,9 +528,9 @@ static bool read_given(void *context, char *bytes, size_t size, size_t *length, 
 /* Writes the notes of the answer as lines, and returns them. */
 static const char *joined_notes(struct held *held) {
     bytes_clear(&held->notes);
-    if (held->values->unsound.length > 0) {
+    if (held->common->unsound.length > 0) {
         bytes_add_text(&held->notes, "1:1: note: IDs are not checked: ");
-        bytes_add(&held->notes, held->values->unsound.data, held->values->unsound.length);
+        bytes_add(&held->notes, held->common->unsound.data, held->common->unsound.length);
         bytes_add_byte(&held->notes, '\n');
     }
     for (size_t at = 0; at < held->answer.note_count; at++) {
@@ -573,7 +561,7 @@ static int32_t give_answer(struct held *held, int error, rncv_xml_answer *answer
         return RNCV_MEMORY;
     }
     *answer = (rncv_xml_answer){verdicts[own->verdict], places[own->stands], own->clause, error, own->place.line, own->place.column,
-                                name, message, notes, own->note_count + (held->values->unsound.length > 0), RNCV_XML_AT_UNKNOWN, 0, 0, "", ""};
+                                name, message, notes, own->note_count + (held->common->unsound.length > 0), RNCV_XML_AT_UNKNOWN, 0, 0, "", ""};
     if (own->earlier != NULL) {
         answer->earlier_at = places[own->earlier->stands];
         answer->earlier_line = own->earlier->place.line;

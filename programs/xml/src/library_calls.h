@@ -19,28 +19,41 @@ static inline const uint8_t *bytes_of_span(struct span span) {
     return (const uint8_t *)span.data;
 }
 
-/* Passes a start, with this number as its place. The status is that of rncv_events_start. */
-static inline int32_t library_tag(rncv_schema *schema, uint64_t place, const struct event_name *name, const rncv_attribute *attributes, size_t count) {
-    return rncv_events_start(schema, place, bytes_of_span(name->uri), name->uri.length, bytes_of_span(name->local), name->local.length, attributes, count);
-}
-
-/* Does the same with the attributes as a parser has them. */
-static inline int32_t library_start(rncv_schema *schema, struct call_room *room, uint64_t place, const struct event_name *name,
-                                    const struct event_attribute *attributes, size_t count) {
+/* Fills the room with attributes as a parser has them. False: out of memory. */
+static inline bool call_room_fill(struct call_room *room, const struct event_attribute *attributes, size_t count) {
     if (count > room->capacity && !call_room_grow(room, count)) {
-        return RNCV_MEMORY;
+        return false;
     }
     rncv_attribute *to = room->attributes;
     for (const struct event_attribute *from = attributes; from < attributes + count; from++, to++) {
         *to = (rncv_attribute){bytes_of_span(from->name.uri), from->name.uri.length, bytes_of_span(from->name.local), from->name.local.length,
                                bytes_of_span(from->value), from->value.length};
     }
-    return library_tag(schema, place, name, room->attributes, count);
+    return true;
+}
+
+/* Passes a start, with this number as its place. The status is that of rncv_events_start. */
+static inline int32_t library_tag(rncv_schema *schema, uint64_t place, const struct event_name *name, const rncv_attribute *attributes, size_t count) {
+    return rncv_events_start(schema, place, bytes_of_span(name->uri), name->uri.length, bytes_of_span(name->local), name->local.length, attributes, count);
+}
+
+/* Does the same with the attributes as a parser has them. RNCV_MEMORY: also if there is no room for them. */
+static inline int32_t library_start(rncv_schema *schema, struct call_room *room, uint64_t place, const struct event_name *name,
+                                    const struct event_attribute *attributes, size_t count) {
+    return call_room_fill(room, attributes, count) ? library_tag(schema, place, name, room->attributes, count) : RNCV_MEMORY;
+}
+
+/* Asks why nothing can follow a start. The status is that of rncv_events_start_reason. */
+static inline int32_t library_start_reason(rncv_schema *schema, const struct event_name *name, const rncv_attribute *attributes, size_t count,
+                                           rncv_reason *reason) {
+    return rncv_events_start_reason(schema, bytes_of_span(name->uri), name->uri.length, bytes_of_span(name->local), name->local.length, attributes, count,
+                                    reason);
 }
 
 static inline int32_t library_text(rncv_schema *schema, struct span text) {
     return rncv_events_text(schema, (const uint8_t *)text.data, text.length);
 }
+
 void call_room_free(struct call_room *room);
 
 #endif

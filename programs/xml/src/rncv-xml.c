@@ -349,8 +349,6 @@ static void judge_all(struct report *report, struct shared *shared, struct docum
     struct schema_files files;
     struct id_types *types = NULL;
     if (compile(report, &files, &shared->schema, &types) && !report->options->prints_schema) {
-        shared->values = (const char *const *)files.values;
-        shared->value_count = files.value_count;
         shared->ids = types;
         if (report->options->is_verbose) {
             report_files(report, &files);

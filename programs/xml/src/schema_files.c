@@ -16,9 +16,7 @@ enum {
     MOST_BYTES = 1048576,    /* of a file; with one more the same */
     MARK_BYTES = 3,          /* of a byte order mark, which the library does not get */
     MOST_XML_BYTES = 16777216, /* of a file in the XML syntax */
-    MOST_MENTIONS = 8192,    /* with more than 4,096 paths of them the library says S9 */
-    MOST_VALUES = 100,       /* literals that are kept */
-    MOST_VALUE_BYTES = 100
+    MOST_MENTIONS = 8192     /* with more than 4,096 paths of them the library says S9 */
 };
 
 static void add_bytes(struct bytes *to, const struct bytes *from) {
@@ -110,33 +108,6 @@ static bool read_content(struct schema_files *files, struct schema_file *file) {
     }
     fault_free(&fault);
     return is_good;
-}
-
-/* Keeps a literal of the schema as a value to try. It is written as in the PYX. False: out of memory. */
-static bool keep_value(struct schema_files *files, const struct bytes *literal) {
-    struct bytes value = NO_BYTES;
-    if (files->value_count == MOST_VALUES || literal->length > MOST_VALUE_BYTES) {
-        return true;
-    }
-    for (size_t at = 0; at < literal->length; at++) {
-        char byte = literal->data[at];
-        if (byte == '\n' || byte == '\t' || byte == '\\') {
-            bytes_add_byte(&value, '\\');
-        }
-        bytes_add_byte(&value, byte == '\n' ? 'n' : byte == '\t' ? 't' : byte);
-    }
-    const char *text = bytes_text(&value);
-    bool is_failed = value.failed;
-    bool is_kept = is_failed;
-    for (size_t at = 0; at < files->value_count && !is_kept; at++) {
-        is_kept = strcmp(files->values[at], text) == 0;
-    }
-    if (is_kept) {
-        bytes_free(&value);
-    } else {
-        files->values[files->value_count++] = value.data; /* the list owns the bytes from here on */
-    }
-    return is_failed ? files_without_memory(files) : true;
 }
 
 /* Whether the text ends in the word, after something. */
@@ -527,21 +498,13 @@ static bool is_context_name(struct span name) {
     return ends_in(name, ":QName") || ends_in(name, ":NOTATION") || ends_in(name, ":ENTITY") || ends_in(name, ":ENTITIES");
 }
 
-/* Keeps the literals of a text, and whether it names a datatype of IDs, or one that depends on the document. False: out of memory. */
-static bool take_literals(struct schema_files *files, const char *text, size_t length) {
+/* Notes whether the text names a datatype of IDs, or one that depends on the document. False: out of memory. */
+static bool take_names(struct schema_files *files, const char *text, size_t length) {
     struct tokens tokens;
     bool is_good = tokens_open(&tokens, text, length) || files_without_memory(files);
-    for (struct token token = is_good ? tokens_next(&tokens) : (struct token){.kind = TOKEN_NONE}; token.kind != TOKEN_NONE && is_good;) {
-        struct bytes literal = NO_BYTES;
-        if (token.kind == TOKEN_LITERAL) {
-            read_literal(&tokens, &token, &literal);
-            is_good = keep_value(files, &literal);
-        } else {
-            files->names_ids |= token.kind == TOKEN_NAME && is_id_name(token.text);
-            files->names_context |= token.kind == TOKEN_NAME && is_context_name(token.text);
-            token = tokens_next(&tokens);
-        }
-        bytes_free(&literal);
+    for (struct token token = is_good ? tokens_next(&tokens) : (struct token){.kind = TOKEN_NONE}; token.kind != TOKEN_NONE; token = tokens_next(&tokens)) {
+        files->names_ids |= token.kind == TOKEN_NAME && is_id_name(token.text);
+        files->names_context |= token.kind == TOKEN_NAME && is_context_name(token.text);
     }
     tokens_close(&tokens);
     return is_good;
@@ -604,13 +567,13 @@ static bool take_compact(struct collecting *collecting, size_t index) {
         return true;
     }
     take_changes(files, (struct span){file->content.data, file->content.length});
-    return blank_annotations(files, file) && take_literals(files, file->content.data, file->content.length) && take_mentions(collecting, index);
+    return blank_annotations(files, file) && take_names(files, file->content.data, file->content.length) && take_mentions(collecting, index);
 }
 
-/* Keeps the literals of a file that was written, and what rncv-profile says in it. */
+/* Takes what a file that was written names, and what rncv-profile says in it. */
 static bool take_written(struct schema_files *files, size_t index) {
     const struct bytes *content = &files->list[index].content;
-    return schema_files_add_values(files, content->data, content->length);
+    return schema_files_take_text(files, content->data, content->length);
 }
 
 /* Reads a file, and takes what it mentions. */
@@ -664,17 +627,9 @@ static bool merge(struct schema_files *files, const struct schema_request *reque
 }
 
 bool schema_files_collect(struct schema_files *files, const struct schema_request *request) {
-    static const char *const simple[] = {"1", "a", "", "0", "true", "aaaaaaaa"};
     struct collecting collecting = {files, request, NULL, 0, 0, 0};
     memset(files, 0, sizeof *files);
-    files->values = calloc(MOST_VALUES, sizeof *files->values);
-    bool is_good = files->values != NULL ? add_given(files, request) : files_without_memory(files);
-    for (size_t at = 0; is_good && at < sizeof simple / sizeof *simple; at++) {
-        struct bytes value = NO_BYTES;
-        bytes_add_text(&value, simple[at]);
-        is_good = value.failed ? files_without_memory(files) : keep_value(files, &value);
-        bytes_free(&value);
-    }
+    bool is_good = add_given(files, request);
     for (size_t at = 0; is_good && at < files->count && at <= MOST_FILES; at++) {
         is_good = take_file(&collecting, at);
     }
@@ -688,9 +643,9 @@ bool schema_files_collect(struct schema_files *files, const struct schema_reques
     return is_good && !files->failed;
 }
 
-bool schema_files_add_values(struct schema_files *files, const char *text, size_t length) {
+bool schema_files_take_text(struct schema_files *files, const char *text, size_t length) {
     take_changes(files, (struct span){text, length});
-    return take_literals(files, text, length);
+    return take_names(files, text, length);
 }
 
 int64_t schema_files_column(const struct schema_files *files, const rncv_fault *fault) {
@@ -739,10 +694,6 @@ void schema_files_free(struct schema_files *files) {
         bytes_free(&files->list[at].merged);
         origins_free(&files->list[at].origins);
     }
-    for (size_t at = 0; at < files->value_count; at++) {
-        free(files->values[at]);
-    }
-    free(files->values);
     free(files->list);
     bytes_free(&files->missing.path);
     bytes_free(&files->missing.name);

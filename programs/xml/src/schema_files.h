@@ -51,8 +51,6 @@ struct schema_files {
     struct place problem_place; /* in that file; line 0: none */
     int problem_status;     /* the exit status for that */
     struct bytes notes;     /* lines about what is not read of files in the XML syntax, without the program's name */
-    char **values;          /* literals of the files, as values of attributes in the PYX */
-    size_t value_count;
     unsigned long long loosened;  /* how many datatypes were loosened in the files, as rncv-profile says in them */
     unsigned long long tightened; /* .. and tightened */
     unsigned long long marked;    /* how many datatypes of IDs have a mark (id_types.h) */
@@ -77,8 +75,8 @@ struct schema_request {
 /* False: `problem` says why. */
 bool schema_files_collect(struct schema_files *files, const struct schema_request *request);
 
-/* Adds the literals of a text to the values, and what rncv-profile says in it. False: out of memory. */
-bool schema_files_add_values(struct schema_files *files, const char *text, size_t length);
+/* Takes what a text names, and what rncv-profile says in it. False: out of memory. */
+bool schema_files_take_text(struct schema_files *files, const char *text, size_t length);
 
 /* The column of a fault, in the file as it is written. Blanks for annotations have a column for each byte. */
 int64_t schema_files_column(const struct schema_files *files, const rncv_fault *fault);

@@ -7,77 +7,62 @@
 
 #define XML_NAMESPACE "http://www.w3.org/XML/1998/namespace"
 
-static void declare(struct scope *scope, const struct event_name *name) {
-    if (!items_grow((void **)&scope->bindings, scope->count, &scope->capacity, sizeof *scope->bindings)) {
+static struct span prefix_of(const struct scope *scope, const struct binding *binding) {
+    return (struct span){scope->texts.data + binding->at, binding->prefix_length};
+}
+
+static struct span uri_of(const struct scope *scope, const struct binding *binding) {
+    return (struct span){scope->texts.data + binding->at + binding->prefix_length, binding->uri_length};
+}
+
+void scope_declare(struct scope *scope, const struct event_declaration *declaration, size_t depth) {
+    struct binding binding = {scope->texts.length, declaration->prefix.length, declaration->uri.length, depth};
+    if (scope->failed) {
+        return;
+    }
+    bool has_room = bytes_reserve(&scope->texts, declaration->prefix.length + declaration->uri.length + 1);
+    if (!has_room || !items_grow((void **)&scope->bindings, scope->count, &scope->capacity, sizeof *scope->bindings)) {
         scope->failed = true;
         return;
     }
-    scope->bindings[scope->count++] = (struct binding){name->prefix, name->uri, scope->depth + 1};
+    bytes_add(&scope->texts, declaration->prefix.data, declaration->prefix.length);
+    bytes_add(&scope->texts, declaration->uri.data, declaration->uri.length);
+    scope->bindings[scope->count++] = binding;
 }
 
-static void enter(struct scope *scope, const struct event_name *name) {
-    scope->depth++;
-    bytes_add(&scope->open, name->prefix.data, name->prefix.length);
-    bytes_add_text(&scope->open, name->prefix.length > 0 ? ":" : "");
-    bytes_add(&scope->open, name->local.data, name->local.length);
-    bytes_add_byte(&scope->open, '\0');
-}
-
-struct span scope_innermost(const struct scope *scope) {
-    size_t end = scope->open.length;
-    size_t begin = end > 0 ? end - 1 : 0;
-    while (begin > 0 && scope->open.data[begin - 1] != '\0') {
-        begin--;
+void scope_keep(struct scope *scope, size_t depth) {
+    while (scope->count > 0 && scope->bindings[scope->count - 1].depth > depth) {
+        scope->texts.length = scope->bindings[--scope->count].at;
     }
-    return end == 0 ? (struct span){"", 0} : (struct span){scope->open.data + begin, end - 1 - begin};
 }
 
-static void leave(struct scope *scope) {
-    while (scope->count > 0 && scope->bindings[scope->count - 1].depth >= scope->depth) {
-        scope->count--;
-    }
-    scope->depth -= scope->depth > 0;
-    struct span last = scope_innermost(scope);
-    scope->open.length -= scope->open.length > 0 ? last.length + 1 : 0;
+size_t scope_depth(const struct scope *scope) {
+    return scope->count == 0 ? 0 : scope->bindings[scope->count - 1].depth;
 }
 
-/* Forgets all but the declarations of the root. */
-static void forget_inner(struct scope *scope) {
-    while (scope->count > 0 && scope->bindings[scope->count - 1].depth > 1) {
-        scope->count--;
-    }
-    bytes_clear(&scope->open);
+size_t scope_held(const struct scope *scope) {
+    return scope->texts.length + scope->count * sizeof *scope->bindings;
 }
 
-void scope_open(struct scope *scope, const struct event_log *log, size_t length, bool are_all) {
-    struct logged event;
-    memset(scope, 0, sizeof *scope);
-    log_reader_open(&scope->reader, log, length);
-    while (!scope->failed && log_reader_next(&scope->reader, &event)) {
-        if (event.kind == LOGGED_DECLARATION) {
-            declare(scope, &event.name);
-        } else if (event.kind == LOGGED_START) {
-            enter(scope, &event.name);
-        } else if (event.kind == LOGGED_END) {
-            leave(scope);
-        }
+void scope_clear(struct scope *scope) {
+    if (scope->texts.failed) { /* what could not grow would stay so */
+        bytes_free(&scope->texts);
     }
-    if (!are_all) {
-        forget_inner(scope);
-    }
-    scope->failed |= scope->reader.failed || scope->open.failed;
+    bytes_clear(&scope->texts);
+    scope->count = 0;
+    scope->failed = false;
 }
 
-void scope_close(struct scope *scope) {
-    log_reader_close(&scope->reader);
+void scope_free(struct scope *scope) {
+    bytes_free(&scope->texts);
     free(scope->bindings);
-    bytes_free(&scope->open);
 }
 
 /* Whether a declaration has no later one of the same prefix. */
 static bool is_seen(const struct scope *scope, uint32_t index) {
+    struct span prefix = prefix_of(scope, &scope->bindings[index]);
     for (uint32_t at = index + 1; at < scope->count; at++) {
-        if (span_equal(scope->bindings[at].prefix, scope->bindings[index].prefix)) {
+        if (span_equal(prefix_of(scope, &scope->bindings[at]), prefix)) {
             return false;
         }
     }
@@ -88,8 +73,8 @@ static bool is_seen(const struct scope *scope, uint32_t index) {
 static bool find_prefix(const struct scope *scope, struct span uri, bool is_attribute, struct span *prefix) {
     for (uint32_t at = scope->count; at > 0; at--) {
         const struct binding *here = &scope->bindings[at - 1];
-        if (span_equal(here->uri, uri) && (!is_attribute || here->prefix.length > 0) && is_seen(scope, at - 1)) {
-            *prefix = here->prefix;
+        if (span_equal(uri_of(scope, here), uri) && (!is_attribute || here->prefix_length > 0) && is_seen(scope, at - 1)) {
+            *prefix = prefix_of(scope, here);
             return true;
         }
     }
@@ -100,8 +85,8 @@ static bool find_prefix(const struct scope *scope, struct span uri, bool is_attr
 /* Whether a name without prefix is in no namespace there. */
 static bool has_no_default(const struct scope *scope) {
     for (uint32_t at = scope->count; at > 0; at--) {
-        if (scope->bindings[at - 1].prefix.length == 0) {
-            return scope->bindings[at - 1].uri.length == 0;
+        if (scope->bindings[at - 1].prefix_length == 0) {
+            return scope->bindings[at - 1].uri_length == 0;
         }
     }
     return true;

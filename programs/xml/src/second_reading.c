@@ -72,7 +72,7 @@ static bool has_content(struct second *second) {
 static void free_judge(struct judge *judge) {
     rncv_schema_free(&judge->schema);
     declared_close(&judge->declared);
-    event_log_free(&judge->log);
+    scope_free(&judge->scope);
     call_room_free(&judge->room);
 }
 

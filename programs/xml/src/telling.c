@@ -1,8 +1,8 @@
 #include "telling.h"
 
+#include "expected.h"
 #include "near.h"
 #include "schema_asked.h"
-#include "scope.h"
 #include "xml_names.h"
 
 #include <stdlib.h>
@@ -15,14 +15,16 @@ enum {
 
 #define XSD "http://www.w3.org/2001/XMLSchema-datatypes"
 
-/* What is told, and the namespaces at the place. */
+/* What is told. */
 struct words {
-    const struct telling *telling;
+    struct judge *judge;
+    const struct finding *found;
     struct answer *answer;
-    struct bytes *line; /* the message */
-    struct scope scope;
-    struct expected tag; /* what the tag of a start could have had */
-    struct bytes near;  /* an expected name that is nearly the one that is there; empty: there is none */
+    struct bytes *line;       /* the message */
+    struct expected expected; /* what could have come before the start or end */
+    struct expected in_place; /* what could have come in place of the text directly before it */
+    struct expected tag;      /* what the tag of a start could have had */
+    struct bytes near;        /* an expected name that is nearly the one that is there; empty: there is none */
     size_t distance;
 };
 
@@ -98,7 +100,7 @@ static void add_element(struct bytes *to, const struct scope *scope, struct span
 static void add_class(struct words *words, const struct wanted_class *class) {
     struct bytes *to = &words->answer->expected;
     if (class->kind == WANTED_NAME) {
-        add_element(to, &words->scope, class->uri, class->local);
+        add_element(to, &words->judge->scope, class->uri, class->local);
     } else {
         bytes_add_text(to, class->kind == WANTED_ANY ? "any element" : class->uri.length == 0 ? "any element without namespace" : "any element of ");
         bytes_add(to, class->uri.data, class->uri.length);
@@ -166,13 +168,18 @@ static void say_element(struct words *words, struct span name) {
 }
 
 static struct span found_name(const struct words *words) {
-    const struct bytes *name = &words->telling->found->name;
+    const struct bytes *name = &words->found->name;
     return (struct span){name->data, name->length};
 }
 
-/* The element that a text is in. */
+/* The element that a text is in. Empty: it is not known. */
 static struct span around(const struct words *words) {
-    return words->telling->found->is_end ? found_name(words) : scope_innermost(&words->scope);
+    const struct bytes *name = &words->found->around;
+    return words->found->is_end ? found_name(words) : (struct span){name->data, name->length};
+}
+
+static struct span found_text(const struct words *words) {
+    return (struct span){words->found->text.data, words->found->text.length};
 }
 
 /* Says a text in parentheses. */
@@ -232,15 +239,14 @@ static void say_end(struct words *words) {
 /* ---- reasons */
 
 static void tell_element(struct words *words) {
-    const struct telling *telling = words->telling;
     words->answer->reason = REASON_ELEMENT;
     say(words, ": ");
     say_element(words, found_name(words));
     say(words, " is not allowed here");
-    add_classes(words, telling->expected, finding_local(telling->found));
-    add_texts(words, telling->expected);
+    add_classes(words, &words->expected, finding_local(words->found));
+    add_texts(words, &words->expected);
     sort_items(words->answer);
-    add_any_text(words, telling->expected);
+    add_any_text(words, &words->expected);
     say_expected(words, "; expected ");
     say_near(words);
     if (words->answer->expected_count == 0) {
@@ -249,7 +255,7 @@ static void tell_element(struct words *words) {
 }
 
 static void tell_incomplete(struct words *words) {
-    const struct expected *expected = words->telling->expected;
+    const struct expected *expected = &words->expected;
     words->answer->reason = REASON_INCOMPLETE;
     say(words, ": ");
     say_element(words, found_name(words));
@@ -264,7 +270,6 @@ static void tell_incomplete(struct words *words) {
 }
 
 static void tell_text_not_allowed(struct words *words) {
-    const struct telling *telling = words->telling;
     struct span name = around(words);
     words->answer->reason = REASON_TEXT;
     say(words, ": text is not allowed ");
@@ -272,14 +277,12 @@ static void tell_text_not_allowed(struct words *words) {
     if (name.length > 0) {
         say_element(words, name);
     }
-    say_text(words, (struct span){telling->found->text.data, telling->found->text.length});
-    if (telling->before_text != NULL) {
-        add_classes(words, telling->before_text, (struct span){"", 0});
-        sort_items(words->answer);
-        say_expected(words, "; expected ");
-        if (words->answer->expected_count == 0) {
-            say_end(words);
-        }
+    say_text(words, found_text(words));
+    add_classes(words, &words->in_place, (struct span){"", 0});
+    sort_items(words->answer);
+    say_expected(words, "; expected ");
+    if (words->answer->expected_count == 0) {
+        say_end(words);
     }
 }
 
@@ -327,56 +330,31 @@ static void say_wrong(struct words *words, const struct expected *expected, stru
 }
 
 static void tell_text_value(struct words *words) {
-    static const struct expected nothing = {.first = 0};
-    const struct telling *telling = words->telling;
-    const struct finding *found = telling->found;
     words->answer->reason = REASON_TEXT_VALUE;
     say(words, ": the text of ");
     say_element(words, around(words));
-    say_wrong(words, telling->before_text == NULL ? &nothing : telling->before_text, (struct span){found->text.data, found->text.length}, !found->is_cut);
-}
-
-static void tell_text(struct words *words) {
-    const struct expected *before_text = words->telling->before_text;
-    if (words->telling->found->is_end && (before_text == NULL || before_text->has_text)) {
-        tell_text_value(words);
-    } else {
-        tell_text_not_allowed(words);
-    }
+    say_wrong(words, &words->in_place, found_text(words), !words->found->is_cut);
 }
 
 /* ---- attributes */
 
-static void add_attribute_name(struct bytes *to, const struct event_name *name) {
-    bytes_add(to, name->prefix.data, name->prefix.length);
-    bytes_add_text(to, name->prefix.length > 0 ? ":" : "");
-    bytes_add(to, name->local.data, name->local.length);
-}
-
-void answer_attribute(struct answer *answer, const struct event_name *name, struct place place) {
-    bytes_clear(&answer->name);
-    add_attribute_name(&answer->name, name);
-    answer->stands = STANDS_ATTRIBUTE;
-    answer->place = place;
-}
-
-/* Begins what is said of an attribute. */
-static void say_attribute(struct words *words, size_t index, const char *after) {
-    const struct event_name *name = &words->telling->attributes[index].name;
-    answer_attribute(words->answer, name, words->telling->found->place);
-    add_attribute_name(&words->answer->attribute, name);
+/* Begins what is said of the attribute that is wrong. */
+static const struct event_attribute *say_attribute(struct words *words, const char *after) {
+    const struct event_attribute *attribute = finding_attribute(words->found);
+    struct bytes *name = &words->answer->attribute;
+    add_written(name, &attribute->name);
     say(words, ": attribute ");
-    say_span(words, (struct span){words->answer->name.data, words->answer->name.length});
+    say_span(words, (struct span){name->data, name->length});
     say(words, after);
     say_element(words, found_name(words));
+    return attribute;
 }
 
 /* Whether the tag has an attribute of this name. */
 static bool has_attribute(const struct words *words, struct span uri, struct span local) {
-    const struct telling *telling = words->telling;
     bool is_there = false;
-    for (size_t at = 0; at < telling->last->count && !is_there; at++) {
-        const struct event_name *name = &telling->attributes[at].name;
+    for (size_t at = 0; at < words->found->attribute_count && !is_there; at++) {
+        const struct event_name *name = &words->found->attributes[at].name;
         is_there = span_equal(name->uri, uri) && span_equal(name->local, local);
     }
     return is_there;
@@ -404,7 +382,7 @@ static void add_attributes(struct words *words, uint32_t class, struct span name
         const struct wanted_class *wanted = &words->tag.classes[class];
         size_t begin = words->answer->expected.length;
         if (wanted->kind == WANTED_NAME && !has_attribute(words, wanted->uri, wanted->local)) {
-            add_scoped(&words->answer->expected, &words->scope, wanted->uri, wanted->local, true);
+            add_scoped(&words->answer->expected, &words->judge->scope, wanted->uri, wanted->local, true);
             end_item(words->answer);
             if (!drop_double(words->answer, begin) && name.length > 0) {
                 keep_near(words, name, wanted->local, begin);
@@ -414,62 +392,85 @@ static void add_attributes(struct words *words, uint32_t class, struct span name
     sort_items(words->answer);
 }
 
-static void tell_attribute_not_allowed(struct words *words, size_t index) {
+/* Tells that an attribute is wrong only beside those before it. */
+static void tell_together(struct words *words) {
+    words->answer->reason = REASON_ATTRIBUTES;
+    const struct event_attribute *attribute = say_attribute(words, " of ");
+    say(words, " does not go with the others");
+    say_text(words, attribute->value);
+}
+
+static void tell_attribute_not_allowed(struct words *words) {
+    const struct event_name *name = &finding_attribute(words->found)->name;
+    if (expected_has(&words->tag, name->uri, name->local)) {
+        tell_together(words);
+        return;
+    }
     words->answer->reason = REASON_ATTRIBUTE;
-    say_attribute(words, index, " is not allowed in ");
-    add_attributes(words, words->tag.first, words->telling->attributes[index].name.local);
+    say_attribute(words, " is not allowed in ");
+    add_attributes(words, words->tag.first, name->local);
     say_expected(words, "; expected ");
     say_near(words);
 }
 
-/* Finds what the value of an attribute may be. Returns whether its own value is wrong; false too if that is not known. */
-static bool is_wrong_value(const struct words *words, const struct declared_list *list, size_t index, struct expected *expected) {
-    const struct telling *telling = words->telling;
-    const struct event_attribute *attribute = &telling->attributes[index];
+/* Finds what the value of the attribute may be, by lines of attributes of the schema. `fits`: its own value is one of those, or that is not known. */
+static void find_values(const struct words *words, const struct declared_list *list, struct expected *expected, bool *fits) {
+    const struct event_attribute *attribute = finding_attribute(words->found);
+    struct declared *declared = &words->judge->declared;
     struct bytes all = NO_BYTES;
     struct bytes written = NO_BYTES;
-    bool is_known = true;
-    bool fits = false;
-    for (uint32_t at = 0; at < list->count && is_known && !fits; at++) {
-        if (declared_has(&telling->judge->declared, list->lines[at], &attribute->name)) {
-            is_known = declared_value(&telling->judge->declared, list->lines[at], RNCV_DATATYPES_XML_SCHEMA, attribute->value, &written, &fits);
+    bool is_known = list->is_known;
+    *fits = false;
+    for (uint32_t at = 0; at < list->count && is_known && !*fits; at++) {
+        if (declared_has(declared, list->lines[at], &attribute->name)) {
+            is_known = declared_value(declared, list->lines[at], RNCV_DATATYPES_XML_SCHEMA, attribute->value, &written, fits);
             bytes_add(&all, written.data, written.length);
         }
     }
-    is_known = expected_open(expected, (struct span){all.data, all.length}) && is_known && !all.failed;
+    is_known = is_known && !all.failed;
+    words->line->failed |= !expected_open(expected, is_known ? (struct span){all.data, all.length} : (struct span){"", 0});
     bytes_free(&all);
     bytes_free(&written);
-    return is_known && !fits;
 }
 
-static void tell_attribute_value(struct words *words, size_t index, const struct expected *expected) {
-    words->answer->reason = REASON_ATTRIBUTE_VALUE;
-    say_attribute(words, index, " of ");
-    say_wrong(words, expected, words->telling->attributes[index].value, true);
-}
-
-/* Tells that an attribute is not allowed, or that its value is wrong. False: neither is known. */
-static bool tell_one_attribute(struct words *words, const struct declared_list *list, size_t index) {
-    struct expected expected = {.first = 0};
-    const struct event_name *name = &words->telling->attributes[index].name;
-    if (!expected_has(&words->tag, name->uri, name->local)) {
-        tell_attribute_not_allowed(words, index);
-        return true;
+/* Tells that the value of an attribute is wrong. If a value is one that the attribute may have, it is wrong beside the attributes before it. */
+static void tell_attribute_value(struct words *words) {
+    struct declared *declared = &words->judge->declared;
+    struct declared_list list = {NULL, 0, 0, false};
+    struct expected values;
+    bool fits = false;
+    if (declared_open(declared, &words->judge->schema)) {
+        declared_find(declared, &(struct event_name){{"", 0}, finding_local(words->found), finding_uri(words->found)}, &list);
     }
-    bool is_wrong = list->is_known && is_wrong_value(words, list, index, &expected);
-    if (is_wrong) {
-        tell_attribute_value(words, index, &expected);
+    find_values(words, &list, &values, &fits);
+    if (fits) {
+        tell_together(words);
+    } else {
+        words->answer->reason = REASON_ATTRIBUTE_VALUE;
+        const struct event_attribute *attribute = say_attribute(words, " of ");
+        say_wrong(words, &values, attribute->value, true);
     }
-    expected_close(&expected);
-    return is_wrong;
+    expected_close(&values);
+    declared_list_free(&list);
 }
 
-/* Tells which attributes are missing. False: none is required by itself. */
-static bool tell_missing(struct words *words) {
+/* Tells that attributes are missing, but not which. */
+static void tell_attributes(struct words *words) {
+    words->answer->reason = REASON_ATTRIBUTES;
+    say(words, ": the attributes of ");
+    say_element(words, found_name(words));
+    say(words, " are not those of the schema");
+    add_attributes(words, words->tag.first, (struct span){"", 0});
+    say_expected(words, "; expected ");
+}
+
+/* Tells which attributes are missing, if some are required by themselves. */
+static void tell_missing(struct words *words) {
     struct answer *answer = words->answer;
     add_attributes(words, words->tag.required, (struct span){"", 0});
     if (answer->expected_count == 0 || answer->expected.failed) {
-        return false;
+        tell_attributes(words);
+        return;
     }
     answer->reason = REASON_MISSING;
     say(words, ": ");
@@ -479,78 +480,80 @@ static bool tell_missing(struct words *words) {
     for (size_t at = 0; at + 1 < answer->expected.length; at++) {
         bytes_add_byte(&answer->attribute, answer->expected.data[at] == '\0' ? ' ' : answer->expected.data[at]);
     }
-    return true;
-}
-
-/* Tells that the attributes are wrong in some way. */
-static void tell_attributes(struct words *words) {
-    words->answer->reason = REASON_ATTRIBUTES;
-    say(words, ": the attributes of ");
-    say_element(words, found_name(words));
-    say(words, " are not those of the schema");
-    if (words->telling->found->is_kept) {
-        add_attributes(words, words->tag.first, (struct span){"", 0});
-        say_expected(words, "; expected ");
-    }
-}
-
-/* Tells that one attribute is wrong only beside the others. */
-static void tell_together(struct words *words, size_t index) {
-    words->answer->reason = REASON_ATTRIBUTES;
-    say_attribute(words, index, " of ");
-    say(words, " does not go with the others");
-    say_text(words, words->telling->attributes[index].value);
-}
-
-static void tell_known_attributes(struct words *words, const struct declared_list *list) {
-    const struct telling *telling = words->telling;
-    bool is_told = telling->attribute != SIZE_MAX && tell_one_attribute(words, list, telling->attribute);
-    for (size_t at = 0; at < telling->last->count && telling->attribute == SIZE_MAX && !is_told; at++) {
-        is_told = tell_one_attribute(words, list, at);
-    }
-    if (!is_told && telling->attribute != SIZE_MAX) {
-        tell_together(words, telling->attribute);
-    } else if (!is_told && !tell_missing(words)) {
-        tell_attributes(words);
-    }
-}
-
-/* Tells what is wrong with the attributes of a start whose name is expected. */
-static void tell_start(struct words *words) {
-    const struct telling *telling = words->telling;
-    struct declared_list list = {NULL, 0, 0, false};
-    rncv_verdict verdict;
-    rncv_events_finish(&telling->judge->schema, &verdict); /* one may be in progress */
-    if (telling->found->is_kept && declared_open(&telling->judge->declared, &telling->judge->schema)) {
-        declared_find(&telling->judge->declared, &telling->last->name, &list);
-    }
-    if (telling->found->is_kept && expected_open(&words->tag, (struct span){telling->found->tag.data, telling->found->tag.length})) {
-        tell_known_attributes(words, &list);
-    } else {
-        tell_attributes(words);
-    }
-    words->line->failed |= words->tag.failed;
-    expected_close(&words->tag);
-    declared_list_free(&list);
 }
 
 /* ---- all of them */
 
-void tell(const struct telling *telling) {
-    struct words words = {telling, telling->answer, &telling->answer->message, {.depth = 0}, {.first = 0}, NO_BYTES, NOT_NEAR};
-    const struct finding *found = telling->found;
-    scope_open(&words.scope, &telling->judge->log, telling->answer->stands == STANDS_TEXT ? found->text_at : found->at, found->is_kept);
-    if (telling->answer->stands == STANDS_TEXT) {
-        tell_text(&words);
-    } else if (found->is_end) {
-        tell_incomplete(&words);
-    } else if (telling->answer->stands == STANDS_TAG && !expected_has(telling->expected, finding_uri(found), finding_local(found))) {
-        tell_element(&words);
+/* Sets what is at the place. */
+static void set_place(const struct words *words) {
+    const struct finding *found = words->found;
+    const struct event_attribute *attribute = finding_attribute(found);
+    struct answer *answer = words->answer;
+    bool is_text = finding_is_text(found);
+    answer->place = is_text ? found->text_place : found->place;
+    answer->stands = is_text ? STANDS_TEXT : attribute != NULL ? STANDS_ATTRIBUTE : found->is_end ? STANDS_END : STANDS_TAG;
+    if (attribute != NULL) {
+        add_written(&answer->name, &attribute->name);
     } else {
-        tell_start(&words);
+        const struct bytes *name = is_text ? &found->text : &found->name;
+        bytes_add(&answer->name, name->data, name->length);
     }
-    telling->answer->message.failed |= words.scope.failed || words.near.failed || telling->answer->expected.failed || telling->answer->attribute.failed ||
-                                       telling->answer->datatype.failed;
-    scope_close(&words.scope);
+}
+
+/* Tells why nothing can follow. */
+static void tell_reason(struct words *words) {
+    switch (words->found->reason.kind) {
+    case RNCV_REASON_ELEMENT:
+        tell_element(words);
+        break;
+    case RNCV_REASON_ATTRIBUTE:
+        tell_attribute_not_allowed(words);
+        break;
+    case RNCV_REASON_VALUE:
+        tell_attribute_value(words);
+        break;
+    case RNCV_REASON_MISSING:
+        tell_missing(words);
+        break;
+    case RNCV_REASON_TEXT:
+        tell_text_not_allowed(words);
+        break;
+    case RNCV_REASON_TEXT_VALUE:
+        tell_text_value(words);
+        break;
+    default:
+        tell_incomplete(words);
+    }
+}
+
+static bool open_expected(struct expected *expected, const struct bytes *written) {
+    return expected_open(expected, (struct span){written->data, written->length});
+}
+
+static bool has_failed(const struct words *words) {
+    const struct answer *answer = words->answer;
+    return words->near.failed || words->expected.failed || words->in_place.failed || words->tag.failed || answer->expected.failed ||
+           answer->attribute.failed || answer->datatype.failed;
+}
+
+void tell(struct judge *judge, const struct finding *found, struct answer *answer) {
+    static const struct expected nothing = {.first = 0};
+    struct words words = {judge, found, answer, &answer->message, nothing, nothing, nothing, NO_BYTES, NOT_NEAR};
+    rncv_verdict verdict;
+    rncv_events_finish(&judge->schema, &verdict); /* one may be in progress */
+    if (found->is_lost || !finding_is_told(found)) {
+        answer->stands = STANDS_NOT_KNOWN;
+        return;
+    }
+    set_place(&words);
+    bool has_all = open_expected(&words.expected, &found->expected) && open_expected(&words.in_place, &found->in_place) &&
+                   open_expected(&words.tag, &found->tag);
+    if (has_all) {
+        tell_reason(&words);
+    }
+    answer->message.failed |= has_failed(&words);
+    expected_close(&words.expected);
+    expected_close(&words.in_place);
+    expected_close(&words.tag);
     bytes_free(&words.near);
 }

@@ -2,25 +2,11 @@
 #ifndef TELLING_H
 #define TELLING_H
 
-#include "expected.h"
-#include "probes.h"
+#include "finding.h"
+#include "judging.h"
 
-/* What is known of the place. */
-struct telling {
-    struct judge *judge; /* without a document in progress, or with one that may be dropped */
-    const struct finding *found;
-    const struct expected *expected;    /* what could have come before the start or end */
-    const struct expected *before_text; /* what could have come in the place of a text directly before it; NULL: there is none, or that is not known */
-    const struct logged *last;          /* the start or end, with its attributes, if `found` says that it is kept */
-    const struct event_attribute *attributes;
-    size_t attribute; /* the index of the one that is wrong; SIZE_MAX: none is, or it is not known */
-    struct answer *answer;
-};
-
-/* Adds it to the message of the answer, and fills what was expected. */
-void tell(const struct telling *telling);
-
-/* Sets that an attribute is at the place. */
-void answer_attribute(struct answer *answer, const struct event_name *name, struct place place);
+/* Fills `place`, `stands` and `name` of the answer, adds to its message what is wrong, and fills what was expected. The judge has the scope of the place. A
+ * document in progress is dropped. */
+void tell(struct judge *judge, const struct finding *found, struct answer *answer);
 
 #endif

@@ -10,6 +10,9 @@ import unittest
 from testing import RNCV_XML, SCHEMA, TOP, InFolder, peak_of, processor_seconds
 
 
+OVER_MEMORY = r"^d\.xml:\d+:\d+: over a limit of this program: more than 1,048,576 bytes are held of the document \(--max-memory\)\n$"
+
+
 class Lines(InFolder):
     """What is printed about a document."""
 
@@ -170,15 +173,57 @@ class Lines(InFolder):
         self.write("t.rnc", "element a { attribute * { text }*, (text | element b { attribute id { xsd:ID }? }*) }")
         entities = "".join(f"<!ENTITY e{number} ''>" for number in range(50_000))
         ids = "".join(f"<b id='i{number}'/>" for number in range(50_000))
-        for document in (f"<a x='{'v' * 2_000_000}'/>", f"<a>{'v' * 2_000_000}</a>", f"<a><![CDATA[{'v' * 2_000_000}]]></a>", f"<a><!--{'v' * 2_000_000}--></a>",
-                         f"<!DOCTYPE a [{entities}]><a/>", f"<!DOCTYPE a [<!ENTITY e '{'v' * 100_000}'>]><a>{'&e;' * 40}</a>", f"<a>{ids}</a>"):
+        for document in (f"<a x='{'v' * 2_000_000}'/>", f"<a><![CDATA[{'v' * 2_000_000}]]></a>", f"<a><!--{'v' * 2_000_000}--></a>",
+                         f"<!DOCTYPE a [{entities}]><a/>", f"<a>{ids}</a>"):
             self.write("d.xml", document)
             self.assertEqual(self.judge("t.rnc", "d.xml"), ("", 0))
-            self.assertRegex(self.judge("--max-memory", "1M", "t.rnc", "d.xml")[0],
-                             r"^d\.xml:1:\d+: over a limit of this program: more than 1,048,576 bytes are held of the document \(--max-memory\)\n$", document[:50])
+            self.assertRegex(self.judge("--max-memory", "1M", "t.rnc", "d.xml")[0], OVER_MEMORY, document[:50])
             self.assertEqual(self.judge("--max-memory=1M", "t.rnc", "d.xml")[1], 2)
         self.write("d.xml", f"<a>{'<b/>' * 400_000}</a>")
         self.assertEqual(self.judge("--max-memory", "1M", "t.rnc", "d.xml"), ("", 0))
+
+    def test_texts_in_memory(self):
+        """A text counts only where the schema tests what it says, so that the library holds it."""
+        self.write("free.rnc", "element a { text }")
+        self.write("tested.rnc", 'element a { xsd:string { maxLength = "5" } }')
+        self.write("mixed.rnc", "element a { mixed { element b { xsd:token }* } }")
+        large, entity = "v" * 4_000_000, f"<!DOCTYPE a [<!ENTITY e '{'v' * 100_000}'>]>"
+        for document in (f"<a>{large}</a>", f"{entity}<a>{'&e;' * 40}</a>", f"<a>{(large + chr(10))[:1000] * 4000}</a>"):
+            self.write("d.xml", document)
+            self.assertEqual(self.judge("--max-memory", "1M", "free.rnc", "d.xml"), ("", 0))
+            self.assertEqual(self.judge("--max-memory", "1M", "mixed.rnc", "d.xml"), ("", 0))
+            line, status = self.judge("--max-memory", "1M", "tested.rnc", "d.xml")
+            self.assertRegex(line, OVER_MEMORY)
+            self.assertEqual(status, 2)
+            self.assertRegex(self.judge("tested.rnc", "d.xml")[0], "that the schema does not allow|is wrong")
+        self.write("d.xml", f"<a>{large}<b>x</b>{large}</a>")
+        self.assertEqual(self.judge("--max-memory", "1M", "mixed.rnc", "d.xml"), ("", 0))
+        self.write("d.xml", f"<a><b>{large}</b></a>")
+        self.assertRegex(self.judge("--max-memory", "1M", "mixed.rnc", "d.xml")[0], OVER_MEMORY)
+
+    def test_far_behind(self):
+        """What is told does not depend on how far behind the place is."""
+        self.write("t.rnc", """
+            namespace p = "urn:p"
+            start = element a { (b | element c { element d { empty }* } | text)* }
+            b = element b { attribute x { xsd:int }, attribute p:y { "1" | "2" }?, (attribute u { text } | attribute v { text })?, element p:e { empty }? }
+            """)
+        begin = "<a xmlns:q='urn:p'>" + "<b x='1' q:y='2'><q:e/></b> text <c><d/></c>\n" * 60_000
+        for inside, reported in (
+                ("<b x='1' z=''/>", "60001:1: invalid: attribute z is not allowed in <b>; expected q:y, u or v"),
+                ("<b q:y='3' x='1'/>", '60001:1: invalid: attribute q:y of <b> is wrong ("3"); expected "1" or "2"'),
+                ("<b q:y='1' x='one'/>", '60001:1: invalid: attribute x of <b> is no xsd:int ("one")'),
+                ("<b q:y='1'/>", "60001:1: invalid: <b> lacks attribute x"), ("<b/>", "60001:1: invalid: <b> lacks attribute x"),
+                ("<b x='1' v='' u=''/>", '60001:1: invalid: attribute u of <b> does not go with the others ("")'),
+                ("<b x='1'><e/></b>", "60001:10: invalid: <e> is not allowed here; expected <q:e>"),
+                ("<b x='1'>t<q:e/></b>", '60001:10: invalid: text is not allowed in <b> ("t"); expected <q:e>'),
+                ("<c><d/>t<d/></c>", '60001:8: invalid: text is not allowed in <c> ("t"); expected <d>'),
+                ("<c><d/>t</c>", '60001:8: invalid: text is not allowed in <c> ("t"); expected <d>'),
+                ("<c><d><r:d xmlns:r='urn:p'/></d></c>", "60001:7: invalid: <r:d> is not allowed here; expected the end of <d>"),
+                ("<c xmlns:r='urn:p'><d/></c><b x='1'><e/></b>", "60001:37: invalid: <e> is not allowed here; expected <q:e>"),
+                ("<b xmlns:r='urn:p' x='1'><e/></b>", "60001:26: invalid: <e> is not allowed here; expected <r:e>")):
+            self.write("d.xml", begin + inside + "</a>")
+            self.assertEqual(self.judge("--max-faults", "1", "t.rnc", "d.xml"), (f"d.xml:{reported}\n", 1), inside)
 
     def test_width(self):
         self.write("t.rnc", "element a { attribute * { text }* }")
@@ -201,9 +246,9 @@ class Lines(InFolder):
         self.write("t.rnc", "element a { attribute x { xsd:token { pattern = '[v]*' } }?, element b { text }?, element c { xsd:string { minLength = '20000000' } }? }")
         for document, reported in ((f"<a x='{'v' * 10_000_000}'/>", ""), (f"<a><b>{'v' * 20_000_000}</b></a>", ""), (f"<a><c>{'v' * 20_000_000}</c></a>", ""),
                                    (f"<a>\n <b><![CDATA[{'v' * 3_000_000}]]></b><d/></a>", f"2:{3_000_021}: invalid: <d> is not allowed here; expected <c>"),
-                                   (f"<a>\n <b x='{'v' * 3_000_000}'>t</b></a>", "2:2: invalid: the attributes of <b> are not those of the schema"),
+                                   (f"<a>\n <b x='{'v' * 3_000_000}'>t</b></a>", "2:2: invalid: attribute x is not allowed in <b>"),
                                    (f"<a>\n <c><!--{'v' * 3_000_000}-->\n  short</c></a>", '3:3: invalid: the text of <c> is an xsd:string that the schema does not allow ("short")'),
-                                   (f"<a>\n <c>\n  {'w' * 3_000_000}</c></a>", f'3:3: invalid: the text of <c> is wrong ("{cut}..")'),
+                                   (f"<a>\n <c>\n  {'w' * 3_000_000}</c></a>", f'3:3: invalid: the text of <c> is an xsd:string that the schema does not allow ("{cut}..")'),
                                    (f"<a>\n <b><?p {'v' * 3_000_000}?></b>\n <c/></a>", "3:2: invalid: <c> ends too early: expected xsd:string")):
             self.write("d.xml", document)
             self.assertEqual(self.judge("t.rnc", "d.xml"), (f"d.xml:{reported}\n", 1) if reported else ("", 0))
