@@ -209,6 +209,54 @@ static int expected_tag_once(void) {
     return status == RNCV_DONE;
 }
 
+/* Asks why a start and an end leave nothing, and what may come in place of a text: returns 1 if all is told, 0 if a call ran out of memory. */
+static int reasons_once(void) {
+    static const char wanted[] = "text\nvalue  token x\ndatatype http://www.w3.org/2001/XMLSchema-datatypes NCName\n";
+    rncv_attribute given[2] = {{(const uint8_t *)"u", 1, (const uint8_t *)"c", 1, (const uint8_t *)"", 0},
+                               {(const uint8_t *)"", 0, (const uint8_t *)"b", 1, (const uint8_t *)"2", 1}};
+    rncv_schema schema = RNCV_NOTHING;
+    rncv_reason reason = {99, 99};
+    uint8_t buffer[128] = {'.'};
+    size_t length = 99;
+    int32_t status = compile("default namespace = \"u\" element a { attribute b { \"1\" }, attribute * - b { text }*, (\"x\" | xsd:NCName) }", &schema);
+    if (status == RNCV_DONE) {
+        status = rncv_events_begin(&schema);
+    }
+    if (status == RNCV_DONE) {
+        status = rncv_events_start_reason(&schema, (const uint8_t *)"u", 1, (const uint8_t *)"a", 1, given, 2, &reason);
+        CHECK(status == RNCV_MEMORY ? reason.kind == 99 && reason.attribute == 99 : status == RNCV_DONE);
+        CHECK(status == RNCV_MEMORY || (reason.kind == RNCV_REASON_VALUE && reason.attribute == 1));
+    }
+    given[1].value = (const uint8_t *)"1";
+    if (status == RNCV_DONE) {
+        status = start(&schema, 1, "a", given, 2);
+    }
+    if (status == RNCV_DONE) {
+        status = rncv_events_text(&schema, (const uint8_t *)"1 2", 3);
+    }
+    if (status == RNCV_DONE) {
+        status = rncv_events_end(&schema, 2);
+    }
+    if (status == RNCV_DONE) {
+        status = rncv_events_end_reason(&schema, &reason);
+        CHECK(status == RNCV_MEMORY ? reason.kind == RNCV_REASON_VALUE : status == RNCV_DONE && reason.kind == RNCV_REASON_TEXT_VALUE);
+    }
+    if (status == RNCV_DONE) {
+        status = rncv_expected_in_place(&schema, buffer, sizeof buffer, &length);
+        CHECK(status == RNCV_MEMORY ? length == 99 && buffer[0] == '.' : status == RNCV_DONE);
+        CHECK(status == RNCV_MEMORY || (length == sizeof wanted - 1 && memcmp(buffer, wanted, length) == 0));
+    }
+    length = 99;
+    if (status == RNCV_MEMORY && rncv_events_held(&schema, &length) == RNCV_DONE) {
+        /* what came before a call that ran out of memory stays, or each later call for the document does too */
+        first = last = -1;
+        int32_t later = rncv_events_start_reason(&schema, NULL, 0, (const uint8_t *)"d", 1, NULL, 0, &reason);
+        CHECK(later == RNCV_DONE || later == RNCV_MEMORY);
+    }
+    rncv_schema_free(&schema);
+    return status == RNCV_DONE;
+}
+
 /* Asks for the place of a datatype: returns 1 if it is written, 0 if the call ran out of memory. */
 static int datatype_place_once(void) {
     const char *text = "datatypes d = \"u\" element a { xsd:string { maxLength = \"1\" } | xsd:byte \"7\" | attribute b { xsd:QName } | list { d:e } }";
@@ -328,6 +376,7 @@ int main(void) {
     each_growth_of(refusal_once);
     each_growth_of(expected_once);
     each_growth_of(expected_tag_once);
+    each_growth_of(reasons_once);
     each_growth_of(datatype_place_once);
     each_growth_of(no_datatype_place_once);
     printf("growths: %ld\n", count);

@@ -1,6 +1,18 @@
 /* Calls in the wrong order, on empty handles and with wrong arguments: each returns RNCV_MISUSE and changes nothing. */
 #include "testing.h"
 
+/* The calls that tell of a document of events, where there is none. */
+static void no_reasons(rncv_schema *schema) {
+    rncv_reason reason = {99, 99};
+    size_t length = 99;
+    uint8_t buffer[1] = {'.'};
+    CHECK(rncv_events_start_reason(schema, NULL, 0, (const uint8_t *)"a", 1, NULL, 0, &reason) == RNCV_MISUSE);
+    CHECK(rncv_events_start_reason(schema, NULL, 0, (const uint8_t *)"\xFF", 1, NULL, 0, &reason) == RNCV_MISUSE);
+    CHECK(rncv_events_end_reason(schema, &reason) == RNCV_MISUSE && reason.kind == 99 && reason.attribute == 99);
+    CHECK(rncv_events_held(schema, &length) == RNCV_MISUSE && length == 99);
+    CHECK(rncv_expected_in_place(schema, buffer, sizeof buffer, &length) == RNCV_MISUSE && length == 99 && buffer[0] == '.');
+}
+
 /* Each call that needs a schema with no document, or any schema, on a handle that holds nothing. */
 static void on_nothing(rncv_schema *schema) {
     rncv_schema other = RNCV_NOTHING;
@@ -19,6 +31,7 @@ static void on_nothing(rncv_schema *schema) {
     CHECK(rncv_simple(schema, buffer, sizeof buffer, &length) == RNCV_MISUSE && length == 99);
     CHECK(rncv_expected(schema, buffer, sizeof buffer, &length) == RNCV_MISUSE && length == 99);
     CHECK(rncv_expected_tag(schema, NULL, 0, (const uint8_t *)"a", 1, buffer, sizeof buffer, &length) == RNCV_MISUSE && length == 99);
+    no_reasons(schema);
     CHECK(memcmp(buffer, "....", 4) == 0);
     CHECK(schema->hidden == NULL);
 }
@@ -33,11 +46,13 @@ static void on_a_schema(void) {
     CHECK(feed(&schema, "(a\n") == RNCV_MISUSE);
     CHECK(rncv_expected(&schema, NULL, 0, &length) == RNCV_MISUSE && length == 99);
     CHECK(rncv_expected_tag(&schema, NULL, 0, (const uint8_t *)"a", 1, NULL, 0, &length) == RNCV_MISUSE && length == 99);
+    no_reasons(&schema);
     CHECK(rncv_document_invalid_since(&schema, &line) == RNCV_MISUSE && line == 99);
     CHECK(rncv_document_end(&schema, &verdict) == RNCV_MISUSE && verdict.kind == 7);
     /* it still works */
     CHECK(rncv_document_begin(&schema) == RNCV_DONE);
     CHECK(rncv_expected_tag(&schema, NULL, 0, (const uint8_t *)"a", 1, NULL, 0, &length) == RNCV_MISUSE && length == 99); /* it comes in PYX */
+    no_reasons(&schema);
     CHECK(feed(&schema, "(a\n)a\n") == RNCV_DONE);
     CHECK(rncv_document_end(&schema, &verdict) == RNCV_DONE && verdict.kind == RNCV_VALID);
     /* after the end */
