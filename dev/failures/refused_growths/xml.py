@@ -53,6 +53,10 @@ FILES = {
     "types.rnc": 'element a { attribute x { xsd:int { minInclusive = "1" maxExclusive = "9" } }, (xsd:QName | xsd:ENTITIES) }\n', "types.xml": '<a x="5">p:q</a>\n',
     "hints.rnc": 'element a { attribute x { "1" }?, element b { attribute y { xsd:int }, element c { empty } }* }\n',
     "hints.xml": '<a x="2" xmlns:p="u">\n<b y="z">1</b>\n<b y="3"><p:d/></b><e/></a>\n',
+    "tags.rnc": 'namespace p = "u" element a { element b { attribute p:x { "1" }, attribute y { "2" }? }*, element c { element d { empty } }? }\n',
+    "value.xml": "<a xmlns:q='u'><b y='2' q:x='1'/><b y='2' q:x='3'/></a>\n", "name.xml": "<a xmlns:q='u'><b q:x='1' z='3'/></a>\n",
+    "lacks.xml": "<a><b y='2'/></a>\n", "before.xml": "<a><c>some<d xmlns:q='u'/></c></a>\n", "early.xml": "<a><c xmlns:q='u'/></a>\n",
+    "long.xml": "<a>" + "some words\n" * 15_000 + "</a>\n",
     "list": "good.xml\nbad.xml\n", "zeros": "good.xml\0none.xml\0", "large.xml": "<a>" + "<!-- some words -->\n" * 15_000 + "<b/></a>\n",
 }
 # What libxml2 writes to standard error where it has no memory for the values of a thread. Whether a thread has a document to read is a matter of time.
@@ -71,6 +75,8 @@ CASES = (
     (1, "rncv-xml -j1 --all t.rnc bad.xml attribute.xml"),
     (1, "rncv-xml -j1 --all i.rnc text.xml"),
     (1, "rncv-xml -j1 --all hints.rnc hints.xml"),
+    (1, "rncv-xml -j1 --all --max-faults 1 tags.rnc value.xml name.xml lacks.xml before.xml early.xml"),
+    (1, "rncv-xml -j1 --all i.rnc long.xml"),
     (1, "rncv-xml -j1 --format json hints.rnc hints.xml"),
     (2, "rncv-xml -j1 --all e.rnc cut.xml clause.xml"),
     (2, "rncv-xml -j1 --all e.rnc dtd.xml outside.xml"),

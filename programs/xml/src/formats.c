@@ -106,10 +106,8 @@ static void add_bytes_member(struct bytes *line, const char *name, const struct 
 
 /* Adds what is wrong, as members. The first one has `before` before it. */
 static void add_reason(struct bytes *line, const struct answer *answer, const char *before) {
-    static const char *const reasons[] = {"",           "element-not-allowed", "attribute-not-allowed", "attribute-value", "attributes-missing",
-                                          "attributes", "text-not-allowed",    "text-value",            "incomplete"};
     if (answer != NULL && answer->reason != REASON_NOT_KNOWN) {
-        bytes_format(line, "%s\"reason\": \"%s\"", before, reasons[answer->reason]);
+        bytes_format(line, "%s\"reason\": \"%s\"", before, reason_word(answer->reason));
         add_expected(line, answer);
         add_bytes_member(line, "attribute", &answer->attribute);
         add_bytes_member(line, "datatype", &answer->datatype);

@@ -100,6 +100,12 @@ void answer_free(struct answer *answer) {
     }
 }
 
+const char *reason_word(enum reason reason) {
+    static const char *const words[] = {"",           "element-not-allowed", "attribute-not-allowed", "attribute-value", "attributes-missing",
+                                        "attributes", "text-not-allowed",    "text-value",            "incomplete"};
+    return words[reason];
+}
+
 int status_of(enum verdict verdict) {
     switch (verdict) {
     case VERDICT_VALID:

@@ -128,6 +128,9 @@ void judge_document(struct judge *judge, const char *name, struct answer *answer
 void judge_by(struct judge *judge, const struct byte_source *source, struct answer *answer);
 void answer_free(struct answer *answer);
 
+/* The word for what is wrong; empty: it is not known. */
+const char *reason_word(enum reason reason);
+
 /* The exit status for a verdict. */
 int status_of(enum verdict verdict);
 

@@ -551,7 +551,9 @@ static int32_t give_answer(struct held *held, int error, rncv_xml_answer *answer
     const char *name = bytes_text(&own->name);
     const char *message = bytes_text(&own->message);
     const char *notes = joined_notes(held);
-    bool is_lost = own->name.failed || own->message.failed || held->notes.failed || own->notes_failed;
+    const char *attribute = bytes_text(&own->attribute);
+    const char *datatype = bytes_text(&own->datatype);
+    bool is_lost = own->name.failed || own->message.failed || held->notes.failed || own->notes_failed || own->attribute.failed || own->datatype.failed;
     if (own->earlier != NULL) {
         bytes_text(&own->earlier->name);
         bytes_text(&own->earlier->message);
@@ -561,7 +563,8 @@ static int32_t give_answer(struct held *held, int error, rncv_xml_answer *answer
         return RNCV_MEMORY;
     }
     *answer = (rncv_xml_answer){verdicts[own->verdict], places[own->stands], own->clause, error, own->place.line, own->place.column,
-                                name, message, notes, own->note_count + (held->common->unsound.length > 0), RNCV_XML_AT_UNKNOWN, 0, 0, "", ""};
+                                name, message, notes, own->note_count + (held->common->unsound.length > 0), RNCV_XML_AT_UNKNOWN, 0, 0, "", "",
+                                reason_word(own->reason), attribute, datatype, own->expected_count == 0 ? "" : own->expected.data, own->expected_count};
     if (own->earlier != NULL) {
         answer->earlier_at = places[own->earlier->stands];
         answer->earlier_line = own->earlier->place.line;
@@ -595,7 +598,8 @@ static int32_t judge_reading(struct held *held, const struct byte_source *source
 /* Whether a document can be judged. Writes an answer without a verdict. */
 static bool is_ready(rncv_xml_judge *judge, rncv_xml_answer *answer) {
     if (answer != NULL) {
-        *answer = (rncv_xml_answer){.name = "", .message = "", .notes = "", .earlier_name = "", .earlier_message = ""};
+        *answer = (rncv_xml_answer){.name = "", .message = "", .notes = "", .earlier_name = "", .earlier_message = "",
+                                    .reason = "", .attribute = "", .datatype = "", .expected = ""};
     }
     return answer != NULL && judge != NULL && judge->hidden != NULL && !is_busy(judge);
 }

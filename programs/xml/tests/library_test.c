@@ -128,11 +128,41 @@ static void judge_row(rncv_xml_judge *judge, const struct row *row) {
     CHECK(is_row(status, &answer, row));
 }
 
+/* What is told is this, and at most one text was expected. */
+static bool tells(const rncv_xml_answer *answer, const char *reason, const char *attribute, const char *datatype, const char *expected) {
+    return strcmp(answer->reason, reason) == 0 && strcmp(answer->attribute, attribute) == 0 && strcmp(answer->datatype, datatype) == 0 &&
+           strcmp(answer->expected, expected) == 0 && answer->expected_count == (expected[0] != '\0');
+}
+
+/* What is wrong with a document, apart from the message. */
+static void reasons(rncv_xml_judge *judge) {
+    static const struct {
+        const char *document, *reason, *attribute, *expected;
+    } told[] = {
+        {"<a x='1'><b>two</b></a>", "", "", ""},
+        {"<a x='1'><c>two</c></a>", "element-not-allowed", "", "<b>"},
+        {"<a x='2'><b>two</b></a>", "attribute-value", "x", "\"1\""},
+        {"<a y='2' x='1'/>", "attribute-not-allowed", "y", ""},
+        {"<a/>", "attributes-missing", "x", "x"},
+        {"<a x='1'>t<b/></a>", "text-not-allowed", "", "<b>"},
+        {"<a x='1'><b>three</b></a>", "text-value", "", "\"two\""},
+        {"<a x='1'></a>", "incomplete", "", "<b>"},
+        {"<a x='1'>", "", "", ""},
+    };
+    rncv_xml_answer answer;
+    for (size_t at = 0; at < sizeof told / sizeof *told; at++) {
+        CHECK(rncv_xml_judge_bytes(judge, told[at].document, strlen(told[at].document), &answer) == RNCV_DONE);
+        CHECK(tells(&answer, told[at].reason, told[at].attribute, "", told[at].expected));
+    }
+    CHECK(rncv_xml_judge_file(judge, "none.xml", &answer) == RNCV_DONE && tells(&answer, "", "", "", ""));
+}
+
 static void answers(rncv_xml_judge *judge) {
     rncv_xml_answer answer;
     for (size_t at = 0; at < ROWS; at++) {
         judge_row(judge, &rows[at]);
     }
+    reasons(judge);
     /* a document with a note */
     const char *noted = "<!DOCTYPE a SYSTEM 'a.dtd'><a x='1'><b>two</b></a>";
     CHECK(rncv_xml_judge_bytes(judge, noted, strlen(noted), &answer) == RNCV_DONE && answer.verdict == RNCV_XML_VALID);
