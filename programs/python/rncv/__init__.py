@@ -39,10 +39,11 @@ from typing import Any, BinaryIO, NamedTuple, NoReturn, Optional, Type, TypeVar,
 from . import _events, _schema_files, _xml
 from ._events import Attributes, EventVerdict, TreeVerdict
 from ._expected import Datatype, Expected, ExpectedTag, NameClass, Value, expected_of, tag_of
+from ._reasons import Reason, Told, reason_of
 from ._xml import XmlVerdict
 
-__all__ = ["Datatype", "Document", "EventVerdict", "Events", "Expected", "ExpectedTag", "LibraryError", "NameClass", "Place", "SchemaError", "TreeVerdict", "Validator", "Value",
-           "Verdict", "XmlVerdict", "clause_title", "compile", "datatype_place", "mentions", "version"]
+__all__ = ["Datatype", "Document", "EventVerdict", "Events", "Expected", "ExpectedTag", "LibraryError", "NameClass", "Place", "Reason", "SchemaError", "TreeVerdict", "Validator",
+           "Value", "Verdict", "XmlVerdict", "clause_title", "compile", "datatype_place", "mentions", "version"]
 __version__ = "0.9.0"
 
 Bytes = Union[bytes, bytearray, memoryview]
@@ -289,7 +290,7 @@ class Validator:
             return TreeVerdict(verdict.kind)
         tags = ((at, element) for at, element in _events.walk(root) if at in ("start", "end"))
         at, element = next(itertools.islice(tags, verdict.place - 1, None))
-        return TreeVerdict(verdict.kind, element, at, verdict.expected)
+        return TreeVerdict(verdict.kind, element, at, verdict.expected, verdict.reason)
 
     def share(self) -> Validator:
         """Returns another validator for the same schema, for example for another thread. The schema is not copied. Close each of the two separately.
@@ -511,6 +512,14 @@ class Events(_InProgress):
     def __init__(self, validator: Validator) -> None:
         super().__init__(validator)
         self._count = 0
+        self._is_hopeless = False
+        self._reason: Optional[Reason] = None
+
+    @property
+    def reason(self) -> Optional[Reason]:
+        """Why nothing can follow the start or end after which no continuation is valid, once that is known (`invalid_since`); None while it is not, or if memory
+        ran out. It stays after the document."""
+        return self._reason
 
     def start(self, name: str, attributes: Attributes = (), place: Optional[int] = None) -> bool:
         """Takes the start of an element. Its attributes are a mapping of names to values, or pairs. A declaration of a namespace is not an attribute.
@@ -518,7 +527,13 @@ class Events(_InProgress):
         TypeError: a name or a value is not text. ValueError: the place is out of range.
         """
         (uri, local), given, number = _events.parts_of(name), _events.array_of(attributes), self._place_of(place)
-        return self._is_taken(self._validator._library.rncv_events_start, number, uri, len(uri), local, len(local), given, len(given))
+        words = uri, len(uri), local, len(local), given, len(given)
+        with self._validator._lock:
+            is_taken = self._is_taken(self._validator._library.rncv_events_start, number, *words)
+            if is_taken and self._becomes_hopeless():
+                with contextlib.suppress(MemoryError):
+                    self._reason = self._reason_by(self._validator._library.rncv_events_start_reason, *words)
+        return is_taken
 
     def text(self, text: str) -> bool:
         """Takes a text. Texts that follow each other are one. TypeError: it is not text."""
@@ -527,7 +542,44 @@ class Events(_InProgress):
 
     def end(self, place: Optional[int] = None) -> bool:
         """Takes the end of the innermost element that is open. ValueError: the place is out of range."""
-        return self._is_taken(self._validator._library.rncv_events_end, self._place_of(place))
+        number = self._place_of(place)
+        with self._validator._lock:
+            is_taken = self._is_taken(self._validator._library.rncv_events_end, number)
+            if is_taken and self._becomes_hopeless():
+                with contextlib.suppress(MemoryError):
+                    self._reason = self._reason_by(self._validator._library.rncv_events_end_reason)
+        return is_taken
+
+    def start_reason(self, name: str, attributes: Attributes = ()) -> Optional[Reason]:
+        """Returns why a start of this name with these attributes leaves nothing of what may come next, or None if it leaves something. Once `invalid_since` is
+        known, the start is in place of that event. The document goes on as before. A text counts once a start or an end has come behind it.
+
+        That something is left does not say that it can be completed. TypeError: a name or a value is not text. ValueError: one has a lone surrogate.
+        MemoryError: out of memory; later calls for this document may raise it too.
+        """
+        (uri, local), given = _events.parts_of(name), _events.array_of(attributes)
+        return self._reason_by(self._validator._library.rncv_events_start_reason, uri, len(uri), local, len(local), given, len(given))
+
+    def end_reason(self) -> Optional[Reason]:
+        """Returns why the end of the innermost element leaves nothing, or None if it may come. Once `invalid_since` is known, the end is in place of that event.
+        The document goes on as before. A text counts once a start or an end has come behind it. MemoryError: out of memory, and each later call for this
+        document raises it too."""
+        return self._reason_by(self._validator._library.rncv_events_end_reason)
+
+    def expected_in_place(self) -> Expected:
+        """Returns what could have come in place of the text directly before the event after which no continuation is valid. If there is no such event or text,
+        or the text is blank, it is what `expected` returns. MemoryError: out of memory."""
+        with self._validator._lock:
+            self._want_progress()
+            return expected_of(_written_by(self._validator._library.rncv_expected_in_place, self._validator._handle))
+
+    def held(self) -> int:
+        """Returns how many bytes the library holds of the text behind the last start or end: none where the schema does not test what a text says."""
+        held = ctypes.c_size_t()
+        with self._validator._lock:
+            self._want_progress()
+            _want_done(self._validator._library.rncv_events_held(self._validator._handle, held))
+        return held.value
 
     def expected_tag(self, name: str) -> ExpectedTag:
         """Returns what the tag of an element of this name may have, if the element starts next. Once `invalid_since` is known, it starts in place of that event.
@@ -550,12 +602,33 @@ class Events(_InProgress):
     def finish(self) -> EventVerdict:
         """Ends the document and returns the verdict. The validator can judge the next one. MemoryError: out of memory; the document has ended."""
         reported, expected = self._reported_by(self._validator._library.rncv_events_finish, self.invalid_since)
-        return EventVerdict(_KINDS[reported.kind], reported.line or None, expected)
+        kind = _KINDS[reported.kind]
+        return EventVerdict(kind, reported.line or None, expected, self._reason if kind == "invalid" else None)
 
     def __enter__(self) -> Events:
         with self._validator._lock:
             self._want_progress()
         return self
+
+    def _becomes_hopeless(self) -> bool:
+        """Whether nothing valid can follow the last call, and something could before it. If memory runs out, that is told by a later call."""
+        if self._is_hopeless:
+            return False
+        since = ctypes.c_uint64()
+        self._validator._library.rncv_events_invalid_since(self._validator._handle, since)
+        self._is_hopeless = since.value != 0
+        return self._is_hopeless
+
+    def _reason_by(self, call: Callable[..., int], *words: Any) -> Optional[Reason]:
+        """The reason that this call of the library tells. The words are those of a start, with its attributes before the last one, or none."""
+        told = Told()
+        with self._validator._lock:
+            self._want_progress()
+            status = call(self._validator._handle, *words, told)
+        if status == _MALFORMED:
+            raise ValueError("a name or a value has a lone surrogate")
+        _want_done(status)
+        return reason_of(told, words[-2] if words else ())
 
     def _place_of(self, place: Optional[int]) -> int:
         self._count += 1
@@ -970,8 +1043,12 @@ def _typed(library: ctypes.CDLL) -> ctypes.CDLL:
         ("rncv_events_text", [schema, ctypes.c_char_p, size], status),
         ("rncv_events_end", [schema, ctypes.c_uint64], status),
         ("rncv_events_invalid_since", [schema, ctypes.POINTER(ctypes.c_uint64)], status),
+        ("rncv_events_held", [schema, ctypes.POINTER(size)], status),
+        ("rncv_events_start_reason", [schema, ctypes.c_char_p, size, ctypes.c_char_p, size, ctypes.POINTER(_events.Attribute), size, ctypes.POINTER(Told)], status),
+        ("rncv_events_end_reason", [schema, ctypes.POINTER(Told)], status),
         ("rncv_events_finish", [schema, ctypes.POINTER(_Verdict)], status),
         ("rncv_expected", [schema, ctypes.c_char_p, size, ctypes.POINTER(size)], status),
+        ("rncv_expected_in_place", [schema, ctypes.c_char_p, size, ctypes.POINTER(size)], status),
         ("rncv_expected_tag", [schema, ctypes.c_char_p, size, ctypes.c_char_p, size, ctypes.c_char_p, size, ctypes.POINTER(size)], status),
         ("rncv_simple", [schema, ctypes.c_char_p, size, ctypes.POINTER(size)], status),
         ("rncv_clause_title", [ctypes.c_char, ctypes.c_int32], ctypes.c_char_p),

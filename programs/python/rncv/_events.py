@@ -8,6 +8,7 @@ from collections.abc import Iterable, Iterator, Mapping
 from typing import Any, Optional, Union
 
 from ._expected import Expected
+from ._reasons import Reason
 
 Attributes = Union[Mapping[str, str], Iterable[tuple[str, str]]]
 
@@ -30,13 +31,14 @@ class EventVerdict:
     """The verdict on a document that came as events. It is true exactly if the document is valid.
 
     `kind` is "valid", "invalid", or "malformed" if the calls are no document. `place` is that of the start or end after which no continuation is valid, for an
-    invalid document, and otherwise None. A text has the place of the start or end behind it. `expected` is what could have come before that place, for an
-    invalid document, unless memory ran out.
+    invalid document, and otherwise None. A text has the place of the start or end behind it. `expected` is what could have come before that place, and
+    `reason` why nothing can follow it, for an invalid document, unless memory ran out.
     """
 
     kind: str
     place: Optional[int] = None
     expected: Optional[Expected] = dataclasses.field(default=None, compare=False, repr=False)
+    reason: Optional[Reason] = dataclasses.field(default=None, compare=False, repr=False)
 
     @property
     def valid(self) -> bool:
@@ -56,13 +58,14 @@ class TreeVerdict:
 
     `kind` is "valid", "invalid", or "malformed" if the tree is no document. For a tree that is not valid, `element` is the element at whose start or end no
     continuation is valid, or with what no document begins, and `at` says where in it: "start", "text", "end" or "tail" (the text behind it). A text that
-    makes a tree invalid is reported at the start or end behind it. For a valid tree both are None. `expected` is that of `EventVerdict`.
+    makes a tree invalid is reported at the start or end behind it. For a valid tree both are None. `expected` and `reason` are those of `EventVerdict`.
     """
 
     kind: str
     element: Any = None
     at: Optional[str] = None
     expected: Optional[Expected] = dataclasses.field(default=None, compare=False, repr=False)
+    reason: Optional[Reason] = dataclasses.field(default=None, compare=False, repr=False)
 
     @property
     def valid(self) -> bool:

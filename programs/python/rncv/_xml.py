@@ -33,6 +33,10 @@ class XmlVerdict:
     that is not known. `name` is that of the element or the attribute, or the first characters of the text. `message` is what `rncv-xml` prints after the
     place. `notes` say what is left out of the document, such as an external DTD: each is a line with the place. `earlier` says where a document that is
     malformed or outside was invalid before that place, if it was.
+
+    `reason`, `expected`, `attribute` and `datatype` are those of `rncv-xml --format json` for an invalid document: a word for what is wrong, what could have
+    been there, the attribute that is wrong or those that are missing, and the datatype that a value or a text should have had. They are None if that is not
+    known, and for `earlier`; `expected` is then empty.
     """
 
     kind: str
@@ -44,6 +48,10 @@ class XmlVerdict:
     message: str = ""
     notes: tuple[str, ...] = ()
     earlier: Optional[XmlVerdict] = None
+    reason: Optional[str] = dataclasses.field(default=None, compare=False, repr=False)
+    expected: tuple[str, ...] = dataclasses.field(default=(), compare=False, repr=False)
+    attribute: Optional[str] = dataclasses.field(default=None, compare=False, repr=False)
+    datatype: Optional[str] = dataclasses.field(default=None, compare=False, repr=False)
 
     @property
     def valid(self) -> bool:
@@ -87,6 +95,11 @@ class _Answer(ctypes.Structure):
         ("earlier_column", ctypes.c_uint64),
         ("earlier_name", ctypes.c_char_p),
         ("earlier_message", ctypes.c_char_p),
+        ("reason", ctypes.c_char_p),
+        ("attribute", ctypes.c_char_p),
+        ("datatype", ctypes.c_char_p),
+        ("expected", ctypes.c_void_p),
+        ("expected_count", ctypes.c_size_t),
     ]
 
 
@@ -285,7 +298,8 @@ class Judge:
             raise RuntimeError(f"rncv: {_text(answer.message)}")
         at = _PLACES[answer.at]
         return XmlVerdict(_KINDS[answer.verdict], answer.line, answer.column, at, None if at is None else _text(answer.name), answer.clause,
-                          _text(answer.message), tuple(_lines(answer.notes)), self._earlier())
+                          _text(answer.message), tuple(_lines(answer.notes)), self._earlier(), _text(answer.reason) or None,
+                          tuple(_texts(answer.expected, answer.expected_count)), _text(answer.attribute) or None, _text(answer.datatype) or None)
 
     def _earlier(self) -> Optional[XmlVerdict]:
         """Where the document was invalid before the place of the answer, if it was."""
@@ -299,6 +313,15 @@ class Judge:
 
 def _text(text: Optional[bytes]) -> str:
     return (text or b"").decode("utf-8", "replace")
+
+
+def _texts(address: Optional[int], count: int) -> Generator[str, None, None]:
+    """So many texts that follow each other, each with a zero behind it."""
+    at = address or 0
+    for _ in range(count):
+        text = ctypes.string_at(at)
+        at += len(text) + 1
+        yield _text(text)
 
 
 def _lines(text: Optional[bytes]) -> Sequence[str]:

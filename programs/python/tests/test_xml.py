@@ -171,6 +171,19 @@ class Judged(unittest.TestCase):
         verdict = self.judged(b"<!DOCTYPE a SYSTEM 'a.dtd'>\n<a x='1'>&e;</a>")
         self.assertEqual((verdict.kind, verdict.line, bool(verdict)), ("outside", 2, False))
 
+    def test_reasons(self):
+        """What is wrong, as members: those of `rncv-xml --format json`."""
+        with rncv.compile({"s.rnc": b'start = a a = element a { attribute x { "1" | "2" }, attribute y { xsd:int }?, attribute z { text }?, (b | c)+ }'
+                                    b" b = element b { empty } c = element c { empty }"}, datatypes="xml-schema") as validator:
+            for document, wanted in (
+                    (b"<a x='1'><d/></a>", ("element-not-allowed", ("<b>", "<c>"), None, None)),
+                    (b"<a x='3'/>", ("attribute-value", ('"1"', '"2"'), "x", None)), (b"<a x='1' y='n'/>", ("attribute-value", ("xsd:int",), "y", "xsd:int")),
+                    (b"<a x='1' v=''/>", ("attribute-not-allowed", ("y", "z"), "v", None)), (b"<a/>", ("attributes-missing", ("x",), "x", None)),
+                    (b"<a x='1'/>", ("incomplete", ("<b>", "<c>"), None, None)), (b"<a x='1'>t<b/></a>", ("text-not-allowed", ("<b>", "<c>"), None, None)),
+                    (b"<a x='1'><b/></a>", (None, (), None, None)), (b"<a x='1'>", (None, (), None, None)), (b"<a", (None, (), None, None))):
+                verdict = self.judged(document, validator)
+                self.assertEqual((verdict.reason, verdict.expected, verdict.attribute, verdict.datatype), wanted, document)
+
     def test_earlier(self):
         """A document that is malformed may have been invalid before."""
         verdict = self.validator.validate_xml(b"<a x='1'>\n <c/><b")
