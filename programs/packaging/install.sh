@@ -191,7 +191,7 @@ if [ "$action" = uninstall ] || [ -f programs/lsp/rncv-lsp ]; then
 else
     lacks "rncv-lsp: there is no programs/lsp/rncv-lsp"
 fi
-for name in __init__.py _events.py _expected.py _schema_files.py _xml.py py.typed; do
+for name in __init__.py _events.py _expected.py _reasons.py _schema_files.py _xml.py py.typed; do
     put 644 "programs/python/rncv/$name" "$python/rncv/$name"
 done
 modules programs/xml/converter "$share/xml/converter"

@@ -343,6 +343,7 @@ share/man/man5/rncv-pyx.5
 share/rncv/python/rncv/__init__.py
 share/rncv/python/rncv/_events.py
 share/rncv/python/rncv/_expected.py
+share/rncv/python/rncv/_reasons.py
 share/rncv/python/rncv/_schema_files.py
 share/rncv/python/rncv/_xml.py
 share/rncv/python/rncv/py.typed

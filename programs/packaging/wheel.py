@@ -29,7 +29,7 @@ import zipfile
 HERE = pathlib.Path(__file__).resolve().parent
 TOP = HERE.parents[1]
 PROJECT = TOP / "programs/python"
-MODULES = ("__init__.py", "_events.py", "_expected.py", "_schema_files.py", "_xml.py", "py.typed")
+MODULES = ("__init__.py", "_events.py", "_expected.py", "_reasons.py", "_schema_files.py", "_xml.py", "py.typed")
 
 
 class Lacking(Exception):
