@@ -272,6 +272,7 @@ int32_t rncv_events_held(rncv_schema *schema, size_t *held);
 /* Writes to `reason` why a start of this name with these `count` attributes leaves nothing of what may come next, or that it leaves something. If no continuation
  * is valid, it is about what could have come before the event after which none is: a caller that passes that start again gets why none is. Where alternatives
  * exclude one another, the order of the attributes decides which one is told. The arguments are as for rncv_events_start. The document goes on as before.
+ * A text counts once a start or an end has come behind it.
  *
  * It is told by what is left of the pattern: that something is left does not say that it can be completed.
  *
@@ -281,7 +282,8 @@ int32_t rncv_events_start_reason(rncv_schema *schema, const uint8_t *uri, size_t
                                  const rncv_attribute *attributes, size_t count, rncv_reason *reason);
 
 /* Writes to `reason` why an end leaves nothing of what may come next, or RNCV_REASON_NONE exactly if the end of the innermost element may come. If no
- * continuation is valid, it is about what could have come before the event after which none is. The document goes on as before.
+ * continuation is valid, it is about what could have come before the event after which none is. The document goes on as before. A text counts once a start or
+ * an end has come behind it: here the end is one that comes in its place.
  *
  * RNCV_MEMORY: out of memory, or a call for the document was; each later call for it returns the same. RNCV_MISUSE: no document of events is in progress.
  * Unless the status is RNCV_DONE, `reason` is unchanged. Only one thread at a time may use the handle. */
@@ -308,8 +310,8 @@ int32_t rncv_events_finish(rncv_schema *schema, rncv_verdict *verdict);
  * `*`, every name; or one of the latter two with other classes whose names are left out, as `* except ( {URI}* {URI}local )`. Excepts nest at most twice. In a
  * URI, a library, a name and a text, `\\`, `\n`, `\r`, `\t` and `\s` stand for a backslash, LF, CR, a tab and a space. A local name has no `}`.
  *
- * An element counts where its pattern stands, whether or not its content can be matched. After a text it is told what may
- * come behind that text; a blank one counts as nothing.
+ * An element counts where its pattern stands, whether or not its content can be matched. After a text it is told what may come behind that text; a blank one
+ * counts as nothing. In a document of events a text counts once a start or an end has come behind it.
  *
  * RNCV_SPACE: the text does not fit; nothing is written to `buffer`, and `length` is the number of bytes that it needs. RNCV_MEMORY: out of memory, or a call
  * for the document was. RNCV_MISUSE: no document is in progress. After these two `length` is unchanged. The caller owns `buffer`. Only one thread at a time may

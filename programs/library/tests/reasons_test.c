@@ -161,6 +161,16 @@ static void holds(rncv_schema *schema) {
     CHECK(rncv_events_end(schema, 4) == RNCV_DONE && held_of(schema) == 0 && is_invalid_since(schema, 0));
 }
 
+/* A text counts once a start or an end has come behind it. */
+static void texts_before_tags(rncv_schema *schema) {
+    static const char integer[] = "text\ndatatype http://www.w3.org/2001/XMLSchema-datatypes integer\n";
+    begin(schema);
+    CHECK(start(schema, 2, "size") == RNCV_DONE && text(schema, "1") == RNCV_DONE && ends_by(schema, RNCV_REASON_INCOMPLETE));
+    check_in_place(schema, integer);
+    CHECK(rncv_events_end(schema, 3) == RNCV_DONE && is_invalid_since(schema, 0) && ends_by(schema, RNCV_REASON_NONE));
+    CHECK(text(schema, "some text") == RNCV_DONE && is_reason(reason_of(schema, "note", NULL), RNCV_REASON_NONE, 0));
+}
+
 static void names_without_a_document(rncv_schema *schema) {
     static const uint8_t bad[] = {0xFF};
     rncv_attribute attribute = {(const uint8_t *)"", 0, (const uint8_t *)"id", 2, bad, 1};
@@ -183,6 +193,7 @@ int main(void) {
     texts_and_starts(&schema);
     ends(&schema);
     holds(&schema);
+    texts_before_tags(&schema);
     names_without_a_document(&schema);
     rncv_schema_free(&schema);
     return outcome("reasons");

@@ -401,8 +401,8 @@ class _InProgress:
     def expected(self) -> Expected:
         """Returns what may come next in the innermost element that is open. Once `invalid_since` is known, it is what could have come before that line or event.
 
-        An element counts where its pattern stands, whether or not its content can be matched. After a text it is what may come
-        behind that text; a blank one counts as nothing. MemoryError: out of memory.
+        An element counts where its pattern stands, whether or not its content can be matched. After a text it is what may come behind that text; a blank one
+        counts as nothing, and of events one counts once a start or an end has come behind it. MemoryError: out of memory.
         """
         with self._validator._lock:
             self._want_progress()
