@@ -512,7 +512,7 @@ class Events(_InProgress):
     def __init__(self, validator: Validator) -> None:
         super().__init__(validator)
         self._count = 0
-        self._is_hopeless = False
+        self._since = ctypes.c_uint64()
         self._reason: Optional[Reason] = None
 
     @property
@@ -527,13 +527,7 @@ class Events(_InProgress):
         TypeError: a name or a value is not text. ValueError: the place is out of range.
         """
         (uri, local), given, number = _events.parts_of(name), _events.array_of(attributes), self._place_of(place)
-        words = uri, len(uri), local, len(local), given, len(given)
-        with self._validator._lock:
-            is_taken = self._is_taken(self._validator._library.rncv_events_start, number, *words)
-            if is_taken and self._becomes_hopeless():
-                with contextlib.suppress(MemoryError):
-                    self._reason = self._reason_by(self._validator._library.rncv_events_start_reason, *words)
-        return is_taken
+        return self._is_tag_taken("rncv_events_start", number, uri, len(uri), local, len(local), given, len(given))
 
     def text(self, text: str) -> bool:
         """Takes a text. Texts that follow each other are one. TypeError: it is not text."""
@@ -542,13 +536,7 @@ class Events(_InProgress):
 
     def end(self, place: Optional[int] = None) -> bool:
         """Takes the end of the innermost element that is open. ValueError: the place is out of range."""
-        number = self._place_of(place)
-        with self._validator._lock:
-            is_taken = self._is_taken(self._validator._library.rncv_events_end, number)
-            if is_taken and self._becomes_hopeless():
-                with contextlib.suppress(MemoryError):
-                    self._reason = self._reason_by(self._validator._library.rncv_events_end_reason)
-        return is_taken
+        return self._is_tag_taken("rncv_events_end", self._place_of(place))
 
     def start_reason(self, name: str, attributes: Attributes = ()) -> Optional[Reason]:
         """Returns why a start of this name with these attributes leaves nothing of what may come next, or None if it leaves something. Once `invalid_since` is
@@ -610,14 +598,23 @@ class Events(_InProgress):
             self._want_progress()
         return self
 
-    def _becomes_hopeless(self) -> bool:
-        """Whether nothing valid can follow the last call, and something could before it. If memory runs out, that is told by a later call."""
-        if self._is_hopeless:
+    def _is_tag_taken(self, call: str, place: int, *words: Any) -> bool:
+        """Passes a start, with these words, or an end, by the call of this name. Returns False if it is malformed. If nothing valid can follow it, the reason is
+        asked for; if memory runs out for that, there is none."""
+        library = self._validator._library
+        with self._validator._lock:
+            self._want_progress()
+            handle = self._validator._handle
+            status = getattr(library, call)(handle, place, *words)
+            if status == _DONE and not self._since.value:
+                library.rncv_events_invalid_since(handle, self._since)
+                if self._since.value:
+                    with contextlib.suppress(MemoryError):
+                        self._reason = self._reason_by(getattr(library, f"{call}_reason"), *words)
+        if status == _MALFORMED:
             return False
-        since = ctypes.c_uint64()
-        self._validator._library.rncv_events_invalid_since(self._validator._handle, since)
-        self._is_hopeless = since.value != 0
-        return self._is_hopeless
+        _want_done(status)
+        return True
 
     def _reason_by(self, call: Callable[..., int], *words: Any) -> Optional[Reason]:
         """The reason that this call of the library tells. The words are those of a start, with its attributes before the last one, or none."""
