@@ -301,6 +301,7 @@ static bool get_tag(const struct alone *alone, struct finding *found) {
     struct alone one = *alone;
     struct bytes text = NO_BYTES;
     bool is_good = true;
+    bytes_clear(&found->tag);
     for (uint32_t at = 0; at < declared->only_count && is_good; at++) {
         struct bytes all = NO_BYTES;
         one.member = declared->only[at];

@@ -52,13 +52,9 @@ static size_t length_of(const struct event_name *name) {
     return NAME_NUMBERS * NUMBER_BYTES + name->prefix.length + name->local.length + name->uri.length;
 }
 
-static size_t most_of(const struct event_log *log) {
-    return log->most == 0 ? LOG_BYTES : log->most;
-}
-
 /* Makes room for an event of at most so many bytes, and returns where it goes. NULL: it does not fit, and nothing more is kept. */
 static char *room_for(struct event_log *log, size_t length) {
-    log->is_full |= log->bytes.failed || length > most_of(log) - log->bytes.length || !bytes_reserve(&log->bytes, length);
+    log->is_full |= log->bytes.failed || length > log->most - log->bytes.length || !bytes_reserve(&log->bytes, length);
     return log->is_full ? NULL : log->bytes.data + log->bytes.length;
 }
 
@@ -68,7 +64,7 @@ static void put_end(struct event_log *log, const char *end) {
 
 void event_log_add_start(struct event_log *log, const struct start_event *start) {
     size_t length = 1 + NUMBER_BYTES + length_of(start->name);
-    for (size_t at = 0; at < start->attribute_count && length <= most_of(log); at++) {
+    for (size_t at = 0; at < start->attribute_count && length <= log->most; at++) {
         length += length_of(&start->attributes[at].name) + NUMBER_BYTES + start->attributes[at].value.length;
     }
     char *to = room_for(log, length);

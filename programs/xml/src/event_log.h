@@ -1,17 +1,15 @@
-/* The first events of a document, kept in few bytes, so that they can be handed to the library again. */
+/* Events, kept in few bytes, so that they can be handed to the library again. */
 #ifndef EVENT_LOG_H
 #define EVENT_LOG_H
 
 #include "events.h"
-
-enum { LOG_BYTES = 1048576 };
 
 struct event_log {
     struct bytes bytes;
     size_t uri; /* where the last URI is among the bytes, and .. */
     size_t uri_length;
     bool is_full; /* no more are kept */
-    size_t most;  /* the most bytes that it has; 0: LOG_BYTES */
+    size_t most;  /* the most bytes that it may have */
 };
 
 void event_log_add_declarations(struct event_log *log, const struct start_event *start);
