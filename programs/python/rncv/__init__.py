@@ -42,8 +42,8 @@ from ._expected import Datatype, Expected, ExpectedTag, NameClass, Value, expect
 from ._reasons import Reason, Told, reason_of
 from ._xml import XmlVerdict
 
-__all__ = ["Datatype", "Document", "EventVerdict", "Events", "Expected", "ExpectedTag", "LibraryError", "NameClass", "Place", "Reason", "SchemaError", "TreeVerdict", "Validator",
-           "Value", "Verdict", "XmlVerdict", "clause_title", "compile", "datatype_place", "mentions", "version"]
+__all__ = ["Datatype", "Document", "EventVerdict", "Events", "Expected", "ExpectedTag", "LibraryError", "NameClass", "Place", "Reason", "SchemaError", "TreeVerdict",
+           "Validator", "Value", "Verdict", "XmlVerdict", "clause_title", "compile", "datatype_place", "mentions", "version"]
 __version__ = "0.9.0"
 
 Bytes = Union[bytes, bytearray, memoryview]
@@ -517,8 +517,8 @@ class Events(_InProgress):
 
     @property
     def reason(self) -> Optional[Reason]:
-        """Why nothing can follow the start or end after which no continuation is valid, once that is known (`invalid_since`); None while it is not, or if memory
-        ran out. It stays after the document."""
+        """Why nothing can follow the start or end after which no continuation is valid, once that is known (`invalid_since`); None while it is not, or if
+        memory ran out. It stays after the document."""
         return self._reason
 
     def start(self, name: str, attributes: Attributes = (), place: Optional[int] = None) -> bool:
@@ -549,8 +549,8 @@ class Events(_InProgress):
         return self._reason_by(self._validator._library.rncv_events_start_reason, uri, len(uri), local, len(local), given, len(given))
 
     def end_reason(self) -> Optional[Reason]:
-        """Returns why the end of the innermost element leaves nothing, or None if it may come. Once `invalid_since` is known, the end is in place of that event.
-        The document goes on as before. A text counts once a start or an end has come behind it. MemoryError: out of memory, and each later call for this
+        """Returns why the end of the innermost element leaves nothing, or None if it may come. Once `invalid_since` is known, the end is in place of that
+        event. The document goes on as before. A text counts once a start or an end has come behind it. MemoryError: out of memory, and each later call for this
         document raises it too."""
         return self._reason_by(self._validator._library.rncv_events_end_reason)
 
@@ -599,8 +599,8 @@ class Events(_InProgress):
         return self
 
     def _is_tag_taken(self, call: str, place: int, *words: Any) -> bool:
-        """Passes a start, with these words, or an end, by the call of this name. Returns False if it is malformed. If nothing valid can follow it, the reason is
-        asked for; if memory runs out for that, there is none."""
+        """Passes a start, with these words, or an end, by the call of this name. Returns False if it is malformed. If nothing valid can follow it, the reason
+        is asked for; if memory runs out for that, there is none."""
         library = self._validator._library
         with self._validator._lock:
             self._want_progress()
@@ -1041,7 +1041,8 @@ def _typed(library: ctypes.CDLL) -> ctypes.CDLL:
         ("rncv_events_end", [schema, ctypes.c_uint64], status),
         ("rncv_events_invalid_since", [schema, ctypes.POINTER(ctypes.c_uint64)], status),
         ("rncv_events_held", [schema, ctypes.POINTER(size)], status),
-        ("rncv_events_start_reason", [schema, ctypes.c_char_p, size, ctypes.c_char_p, size, ctypes.POINTER(_events.Attribute), size, ctypes.POINTER(Told)], status),
+        ("rncv_events_start_reason", [schema, ctypes.c_char_p, size, ctypes.c_char_p, size, ctypes.POINTER(_events.Attribute), size, ctypes.POINTER(Told)],
+         status),
         ("rncv_events_end_reason", [schema, ctypes.POINTER(Told)], status),
         ("rncv_events_finish", [schema, ctypes.POINTER(_Verdict)], status),
         ("rncv_expected", [schema, ctypes.c_char_p, size, ctypes.POINTER(size)], status),

@@ -248,7 +248,8 @@ class Lines(InFolder):
                                    (f"<a>\n <b><![CDATA[{'v' * 3_000_000}]]></b><d/></a>", f"2:{3_000_021}: invalid: <d> is not allowed here; expected <c>"),
                                    (f"<a>\n <b x='{'v' * 3_000_000}'>t</b></a>", "2:2: invalid: attribute x is not allowed in <b>"),
                                    (f"<a>\n <c><!--{'v' * 3_000_000}-->\n  short</c></a>", '3:3: invalid: the text of <c> is an xsd:string that the schema does not allow ("short")'),
-                                   (f"<a>\n <c>\n  {'w' * 3_000_000}</c></a>", f'3:3: invalid: the text of <c> is an xsd:string that the schema does not allow ("{cut}..")'),
+                                   (f"<a>\n <c>\n  {'w' * 3_000_000}</c></a>",
+                                    f'3:3: invalid: the text of <c> is an xsd:string that the schema does not allow ("{cut}..")'),
                                    (f"<a>\n <b><?p {'v' * 3_000_000}?></b>\n <c/></a>", "3:2: invalid: <c> ends too early: expected xsd:string")):
             self.write("d.xml", document)
             self.assertEqual(self.judge("t.rnc", "d.xml"), (f"d.xml:{reported}\n", 1) if reported else ("", 0))
