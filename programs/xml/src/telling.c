@@ -120,12 +120,22 @@ static void keep_near(struct words *words, struct span name, struct span other, 
     }
 }
 
+/* Whether a class is the name of the element itself: it is expected, and nothing matches it. */
+static bool is_own(const struct words *words, const struct wanted_class *class) {
+    return class->kind == WANTED_NAME && span_equal(class->uri, finding_uri(words->found)) && span_equal(class->local, finding_local(words->found));
+}
+
+/* Adds the classes of elements. With a name, that of an element which is not allowed, one that is nearly the same is kept, and the element itself is left out. */
 static void add_classes(struct words *words, const struct expected *expected, struct span name) {
-    for (uint32_t class = expected->first; class != 0; class = expected->classes[class].next) {
+    for (uint32_t at = expected->first; at != 0; at = expected->classes[at].next) {
+        const struct wanted_class *class = &expected->classes[at];
         size_t begin = words->answer->expected.length;
-        add_class(words, &expected->classes[class]);
-        if (expected->classes[class].kind == WANTED_NAME && name.length > 0) {
-            keep_near(words, name, expected->classes[class].local, begin);
+        if (name.length > 0 && is_own(words, class)) {
+            continue;
+        }
+        add_class(words, class);
+        if (class->kind == WANTED_NAME && name.length > 0) {
+            keep_near(words, name, class->local, begin);
         }
     }
 }

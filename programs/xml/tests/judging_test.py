@@ -201,6 +201,13 @@ class Lines(InFolder):
         self.write("d.xml", f"<a><b>{large}</b></a>")
         self.assertRegex(self.judge("--max-memory", "1M", "mixed.rnc", "d.xml")[0], OVER_MEMORY)
 
+    def test_elements_that_nothing_matches(self):
+        schema = "start = element a { (b | c | x)* } b = element b { notAllowed } c = element c { attribute y { notAllowed } } x = element x { empty }"
+        for document, reported in (("<a><b/></a>", "1:4: invalid: <b> is not allowed here; expected <c> or <x>"),
+                                   ("<a><c y='1'/></a>", "1:4: invalid: <c> is not allowed here; expected <b> or <x>"),
+                                   ("<a><c/></a>", "1:4: invalid: <c> is not allowed here; expected <b> or <x>")):
+            self.invalid(schema, document, reported)
+
     def test_far_behind(self):
         """What is told does not depend on how far behind the place is."""
         self.write("t.rnc", """
