@@ -245,8 +245,8 @@ class Reason:
 
     `names` says of each name that was tried whether its element may start in the state `state`. `texts` has the values and datatypes that may come, each as
     (kind, type, text), and `has_text` says whether any text may. `attribute` is the one at fault, `others` has those that the tag could have besides, and
-    `missing` those that it must have. `is_never` says that the element may start but that nothing is allowed in it. `scope` has the namespaces of the
-    prefixes; `column` and `name` are what is there.
+    `missing` those that it must have. `is_never` says that the element may start but that nothing is allowed in it: its name is then not expected. `scope`
+    has the namespaces of the prefixes; `column` and `name` are what is there.
     """
 
     def __init__(self, reason, at):
@@ -292,6 +292,7 @@ def of_start(patterns, fault, left):
     if begun is patterns.none or patterns.has_only_lacking(begun):
         found = Reason(ELEMENT, "element").in_state(patterns, left)
         found.is_never = begun is not patterns.none
+        found.names[fault.name] = False
         return found
     rest = begun
     for name, value in fault.attributes:
@@ -305,10 +306,10 @@ def of_start(patterns, fault, left):
 
 
 def of_end(patterns, fault, left, may_be_text):
-    """The reason why an end leaves nothing. A text before it is at fault if none is allowed there, or one of some datatype, or no element may come."""
+    """The reason why an end leaves nothing. A text before it is at fault if none is allowed there, or if no element may come behind it."""
     found = Reason(INCOMPLETE, "end").in_state(patterns, left)
     by_text = Reason(TEXT_VALUE if may_be_text else TEXT, "text").in_state(patterns, fault.before)
-    is_text = not is_blank(fault.text) and (not may_be_text or by_text.texts or not any(found.names.values()))
+    is_text = not is_blank(fault.text) and not (may_be_text and any(found.names.values()))
     return by_text if is_text else found
 
 

@@ -110,7 +110,7 @@ def attribute_difference(said, reason):
     told, expected = attributes_of(said.get("attribute", "").split(), reason.scope), said.get("expected", [])
     if reason.attribute and told != {reason.attribute}:
         return f"{reason.reason} of another attribute", f"{said['attribute']}, and not {reason.attribute}"
-    if reason.missing is not None and (told != reason.missing or attributes_of(expected, reason.scope) != told):
+    if reason.missing is not None and (told != reason.missing or told and attributes_of(expected, reason.scope) != told):
         return "other attributes missing", f"told: {sorted(told)}; missing: {sorted(reason.missing)}"
     if reason.others is not None and attributes_of(expected, reason.scope) != reason.others:
         return "other attributes expected", f"told: {sorted(expected)}; expected: {sorted(reason.others)}"

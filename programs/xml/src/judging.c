@@ -101,8 +101,8 @@ void answer_free(struct answer *answer) {
 }
 
 const char *reason_word(enum reason reason) {
-    static const char *const words[] = {"",           "element-not-allowed", "attribute-not-allowed", "attribute-value", "attributes-missing",
-                                        "attributes", "text-not-allowed",    "text-value",            "incomplete"};
+    static const char *const words[] = {"",                 "element-not-allowed", "attribute-not-allowed", "attribute-value", "attributes-missing",
+                                        "text-not-allowed", "text-value",          "incomplete"};
     return words[reason];
 }
 

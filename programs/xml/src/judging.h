@@ -37,7 +37,6 @@ enum reason {
     REASON_ATTRIBUTE,       /* an attribute is not allowed */
     REASON_ATTRIBUTE_VALUE, /* the value of an attribute is wrong */
     REASON_MISSING,         /* attributes are missing */
-    REASON_ATTRIBUTES,      /* the attributes do not go together */
     REASON_TEXT,            /* text is not allowed there */
     REASON_TEXT_VALUE,      /* the text is not one of those that are allowed */
     REASON_INCOMPLETE       /* the element ends too early */

@@ -222,8 +222,7 @@ static void judge_element(struct second_pass *pass, const struct position *end) 
 
 /* Whether the fault that is known is one of the attributes of the start where it is. */
 static bool is_of_attributes(const struct answer *first) {
-    return first->reason == REASON_ATTRIBUTE || first->reason == REASON_ATTRIBUTE_VALUE || first->reason == REASON_MISSING ||
-           first->reason == REASON_ATTRIBUTES;
+    return first->reason == REASON_ATTRIBUTE || first->reason == REASON_ATTRIBUTE_VALUE || first->reason == REASON_MISSING;
 }
 
 /* Marks what the fault that is known is about, at its start. An element that is not allowed there may be another one, by a wrong name. */

@@ -402,9 +402,9 @@ static void add_attributes(struct words *words, uint32_t class, struct span name
     sort_items(words->answer);
 }
 
-/* Tells that an attribute is wrong only beside those before it. */
-static void tell_together(struct words *words) {
-    words->answer->reason = REASON_ATTRIBUTES;
+/* Tells that an attribute, or its value, is wrong only beside those before it. */
+static void tell_together(struct words *words, enum reason reason) {
+    words->answer->reason = reason;
     const struct event_attribute *attribute = say_attribute(words, " of ");
     say(words, " does not go with the others");
     say_text(words, attribute->value);
@@ -413,7 +413,7 @@ static void tell_together(struct words *words) {
 static void tell_attribute_not_allowed(struct words *words) {
     const struct event_name *name = &finding_attribute(words->found)->name;
     if (expected_has(&words->tag, name->uri, name->local)) {
-        tell_together(words);
+        tell_together(words, REASON_ATTRIBUTE);
         return;
     }
     words->answer->reason = REASON_ATTRIBUTE;
@@ -454,7 +454,7 @@ static void tell_attribute_value(struct words *words) {
     }
     find_values(words, &list, &values, &fits);
     if (fits) {
-        tell_together(words);
+        tell_together(words, REASON_ATTRIBUTE_VALUE);
     } else {
         words->answer->reason = REASON_ATTRIBUTE_VALUE;
         const struct event_attribute *attribute = say_attribute(words, " of ");
@@ -464,25 +464,24 @@ static void tell_attribute_value(struct words *words) {
     declared_list_free(&list);
 }
 
-/* Tells that attributes are missing, but not which. */
-static void tell_attributes(struct words *words) {
-    words->answer->reason = REASON_ATTRIBUTES;
-    say(words, ": the attributes of ");
+/* Tells that attributes are missing, and which could be there, since none is required by itself. */
+static void tell_some_missing(struct words *words) {
+    say(words, ": ");
     say_element(words, found_name(words));
-    say(words, " are not those of the schema");
+    say(words, " lacks attributes");
     add_attributes(words, words->tag.first, (struct span){"", 0});
     say_expected(words, "; expected ");
 }
 
-/* Tells which attributes are missing, if some are required by themselves. */
+/* Tells that attributes are missing, and which, if some are required by themselves. */
 static void tell_missing(struct words *words) {
     struct answer *answer = words->answer;
+    answer->reason = REASON_MISSING;
     add_attributes(words, words->tag.required, (struct span){"", 0});
     if (answer->expected_count == 0 || answer->expected.failed) {
-        tell_attributes(words);
+        tell_some_missing(words);
         return;
     }
-    answer->reason = REASON_MISSING;
     say(words, ": ");
     say_element(words, found_name(words));
     say(words, answer->expected_count == 1 ? " lacks attribute " : " lacks attributes ");
