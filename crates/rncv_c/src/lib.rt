@@ -486,7 +486,7 @@ pub extern "C" fn rncv_events_start_reason(
 /// Reports in `reason` why an end leaves nothing of what may come next in the document of events that the handle holds, or
 /// that it may come. If no continuation is valid, it is about what could have come before the event that made it so.
 ///
-/// Returns 0 on success; 3 when out of memory, and then each later call for the document returns it; 4 exactly if no document
+/// Returns 0 on success; 3 when out of memory, and then later calls for the document may return it; 4 exactly if no document
 /// of events is begun. Costs what `EventDocument::end_reason` costs. RELAX NG Specification, section 6.2.7.
 #[unsafe(no_mangle)]
 pub extern "C" fn rncv_events_end_reason(

@@ -78,8 +78,8 @@ fn start_numbers(
 
 /// Reports why an end leaves nothing of the document that the handle holds.
 ///
-/// Fails with `Misuse` exactly if no document of events is begun; otherwise with `Memory` when out of memory; then each later
-/// call for the document returns it. Costs what `EventDocument::end_reason` costs.
+/// Fails with `Misuse` exactly if no document of events is begun; otherwise with `Memory` when out of memory; then later calls
+/// for the document may return it. Costs what `EventDocument::end_reason` costs.
 pub fn end_reason(alloc: Global, schema: &mut Handle) -> Result<ReasonNumbers, Status>
     ensures told { IfOk result (λ told. IfSome (events_in schema.old.held) (λ d. IsSomeAnd (events_in schema.new.held) (TellsEndReason told d))) }
     ensures misuse { IfErr result (λ status. (status ≡ Status.Misuse) ↔ (events_in schema.old.held ≡ None)) }

@@ -224,8 +224,8 @@ impl EventDocument {
     ///
     /// It is stated on what is left of the pattern (`Expected`): an element or a datatype counts where its pattern stands.
     /// A text counts once a start or an end has come behind it: before that it is what may come in its place. Behind it, a
-    /// blank text counts as nothing (section 6.2.7). Fails only when this call, or an earlier one, is out of memory. Time and memory are linear in the number of patterns that
-    /// the matcher keeps. RELAX NG Specification, sections 6.2 and 6.2.7.
+    /// blank text counts as nothing (section 6.2.7). Fails only when this call, or an earlier one, is out of memory. Time and
+    /// memory are linear in the number of patterns that the matcher keeps. RELAX NG Specification, sections 6.2 and 6.2.7.
     pub fn expected(&self) -> Result<Expected<'_>, OutOfMemory>
         ensures { IfOk result (λ e. (calls : List Event) (taken : HasTaken self.now calls)
             → MayFollow (reading_of self.now.grammar) self.now.matching.progress (next_of e) taken.events) }
@@ -281,8 +281,9 @@ impl EventDocument {
     /// start, it is why no continuation is valid.
     ///
     /// It is stated on what is left of the pattern (`Reason`), as `expected` is. The calls that were taken stay. Fails only when
-    /// out of memory, in this call or in an earlier one. Then what is kept is unchanged, or each later call fails. Costs a copy of the name
-    /// and the attributes, and what `MatcherState::start_reason` costs. RELAX NG Specification, sections 6.2.7 and 6.2.8.
+    /// out of memory, in this call or in an earlier one. Then what is kept is unchanged, or each later call fails. Costs a
+    /// copy of the name and the attributes, and what `MatcherState::start_reason` costs. RELAX NG Specification, sections
+    /// 6.2.7 and 6.2.8.
     pub fn start_reason(
         &mut self,
         name: ExpandedName<'_>,
@@ -318,8 +319,8 @@ impl EventDocument {
     ///
     /// It is stated on what is left of the pattern (`Reason`), as `expected` is: the end is one in place of a text that has come
     /// since the last start or end. The calls that were taken stay. Fails only when out of memory, in this call or in an
-    /// earlier one; then later calls may fail too. Costs what `Matcher::may_end` and
-    /// `MatcherState::end_reason` cost. RELAX NG Specification, section 6.2.7.
+    /// earlier one; then later calls may fail too. Costs what `Matcher::may_end` and `MatcherState::end_reason` cost. RELAX NG
+    /// Specification, section 6.2.7.
     pub fn end_reason(&mut self) -> Result<Option<Reason>, OutOfMemory>
         ensures knows { StillKnows self.old self.new }
         ensures same { OnOk result (self.new.fault ≡ self.old.fault) }

@@ -285,7 +285,7 @@ int32_t rncv_events_start_reason(rncv_schema *schema, const uint8_t *uri, size_t
  * continuation is valid, it is about what could have come before the event after which none is. The document goes on as before. A text counts once a start or
  * an end has come behind it: here the end is one that comes in its place.
  *
- * RNCV_MEMORY: out of memory, or a call for the document was; each later call for it returns the same. RNCV_MISUSE: no document of events is in progress.
+ * RNCV_MEMORY: out of memory, or a call for the document was; later calls for it may return the same. RNCV_MISUSE: no document of events is in progress.
  * Unless the status is RNCV_DONE, `reason` is unchanged. Only one thread at a time may use the handle. */
 int32_t rncv_events_end_reason(rncv_schema *schema, rncv_reason *reason);
 

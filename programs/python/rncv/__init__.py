@@ -550,8 +550,8 @@ class Events(_InProgress):
 
     def end_reason(self) -> Optional[Reason]:
         """Returns why the end of the innermost element leaves nothing, or None if it may come. Once `invalid_since` is known, the end is in place of that
-        event. The document goes on as before. A text counts once a start or an end has come behind it. MemoryError: out of memory, and each later call for this
-        document raises it too."""
+        event. The document goes on as before. A text counts once a start or an end has come behind it. MemoryError: out of memory; later calls for this
+        document may raise it too."""
         return self._reason_by(self._validator._library.rncv_events_end_reason)
 
     def expected_in_place(self) -> Expected:
