@@ -122,33 +122,35 @@ impl Mark {
         Ok(some_end_with(derivatives, now, after, string.blank))
     }
 
-    /// Returns what is left at the mark. Fails only when out of memory.
+    /// Returns what is left at the mark, boxed. Fails only when out of memory.
     pub fn left<D: Derivatives>(
         self,
         derivatives: &mut D,
         alloc: Global,
         table: &mut LevelTable,
-    ) -> Result<Left, OutOfMemory>
+    ) -> Result<Box<Left>, OutOfMemory>
         requires kept { HoldsBy AreKept (D.basis derivatives.old) (D.trees derivatives.old) table.old }
         requires mark { IsMarkKept table.old self }
         ensures basis { OnOk result (D.basis derivatives.new ≡ D.basis derivatives.old) }
         ensures longer { OnOk result (Longer (D.trees derivatives.old) (D.trees derivatives.new)) }
-        ensures left { IfOk result (λ l. left_of l ≡ marked (levels_in table.old) self) }
+        ensures left { IfOk result (λ l. left_of l.value ≡ marked (levels_in table.old) self) }
         ensures ends { IfOk result (λ l. (m : LevelMatcher) → IsMarkOf (reading_by (D.basis derivatives.old)) (D.trees derivatives.old) table.old self m
-            → (l.may_end ≡ true) ↔ EndMayCome (reading_by (D.basis derivatives.old)) m) }
+            → (l.value.may_end ≡ true) ↔ EndMayCome (reading_by (D.basis derivatives.old)) m) }
     {
         let mut alternatives = Vec::new(alloc);
         alternatives.extend_from_slice(table.numbers_at(settled_level(self.level, self.string)))?;
         let mut in_place = Vec::new(alloc);
         in_place.extend_from_slice(table.numbers_at(self.level))?;
         let may_end = self.may_end(derivatives, alloc, table)?;
-        Ok(Left {
+        let left = Left {
             alternatives,
             in_place,
             has_begun: self.has_begun,
             has_text: has_text(self.string),
             is_open: self.is_open,
             may_end,
-        })
+        };
+        let boxed = Box::new(alloc, left)?;
+        Ok(boxed)
     }
 }

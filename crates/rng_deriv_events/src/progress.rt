@@ -24,8 +24,8 @@ pub enum Progress {
     /// The document may be valid. The line is that of the last event, or 0. The position is boxed, so that moving what is
     /// known costs little.
     Going { position: Box<Position>, line: u64 },
-    /// No continuation after the event of this line is valid. What was left before it is kept.
-    Failed { line: u64, left: Left },
+    /// No continuation after the event of this line is valid. What was left before it is kept, boxed for the same reason.
+    Failed { line: u64, left: Box<Left> },
     /// Nothing is known, since a call ran out of memory.
     Lost,
 }
@@ -79,7 +79,7 @@ fn go_on<D: Derivatives>(
     position: &mut Box<Position>,
     line: u64,
     input: Input<'_>,
-) -> Result<Option<Left>, OutOfMemory>
+) -> Result<Option<Box<Left>>, OutOfMemory>
     requires kept { HoldsBy IsPositionKept (D.basis derivatives.old) (D.trees derivatives.old) position.old.value }
     requires serves { Serves input (tests_at position.old.value) }
     ensures keeps { IfOk result (λ failed. Keeps IsProgressInside (D.basis derivatives.old) (D.basis derivatives.new) (D.trees derivatives.new)

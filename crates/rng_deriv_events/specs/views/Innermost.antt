@@ -7,5 +7,5 @@ use Rattle.rng_deriv_events.specs.declared.progress.Progress.TheVariants as prog
 -- what is left, or was left before the event after which nothing is left
 abbrev pub innermost_of : Progress → Option LevelLeft
 innermost_of (progress.Going p line) = Some (level_in p.value)
-innermost_of (progress.Failed line left) = Some (left_of left)
+innermost_of (progress.Failed line left) = Some (left_of left.value)
 innermost_of progress.Lost = None

@@ -85,7 +85,7 @@ pub record FailsWith (g : Reading) (trees : List (Simple ℕ)) (l : LevelLeft) (
 
 -- what is known of a document that might have been valid, after the event of this line: it may still be valid, or else
 -- this was left before the event
-abbrev pub progress_at : Option Left → Box Position Global → ℕ → Progress
+abbrev pub progress_at : Option (Box Left Global) → Box Position Global → ℕ → Progress
 progress_at None p line = progress.Going p line
 progress_at (Some left) p line = progress.Failed line left
 
@@ -97,7 +97,7 @@ pub record IsLeftInside (trees : List (Simple ℕ)) (l : LevelLeft) : Type 0 whe
 -- what is kept is right by the patterns of a table
 abbrev pub IsProgressInside : Reading → Keys → List (Simple ℕ) → Progress → Type 0
 IsProgressInside g keys trees (progress.Going p line) = IsPositionKept g keys trees p.value
-IsProgressInside g keys trees (progress.Failed line left) = IsLeftInside trees (left_of left)
+IsProgressInside g keys trees (progress.Failed line left) = IsLeftInside trees (left_of left.value)
 IsProgressInside g keys trees progress.Lost = ⊤
 
 -- the line after which no continuation is valid, if it is known
@@ -117,7 +117,7 @@ IsLost p = p ≡ progress.Lost
 -- what is known represents the events
 abbrev pub IsKnown : Reading → List (Simple ℕ) → Progress → List Event → Type 0
 IsKnown g trees (progress.Going p line) es = HasCome g trees (open_position p.value) line es
-IsKnown g trees (progress.Failed line left) es = FailsWith g trees (left_of left) left.may_end es line
+IsKnown g trees (progress.Failed line left) es = FailsWith g trees (left_of left.value) left.value.may_end es line
 IsKnown g trees progress.Lost es = ⊤
 
 -- what is known after one more event, in the table as it is after the event
@@ -127,5 +127,5 @@ AddsProgress g e Before new p = (es : List Event) → Before es → IsKnown g ne
 -- these events lead to what is left; if nothing is left after one of them, those before it lead to what was left
 abbrev pub LeadUp : Reading → List (Simple ℕ) → Progress → LevelLeft → List Event → Type 0
 LeadUp g trees (progress.Going p line) l es = LeadTo g trees l es
-LeadUp g trees (progress.Failed line left) l es = FailsWith g trees l left.may_end es line
+LeadUp g trees (progress.Failed line left) l es = FailsWith g trees l left.value.may_end es line
 LeadUp g trees progress.Lost l es = ⊤

@@ -45,7 +45,7 @@ returns-then-level-clause-keeps g c =
     record {
       basis = left.basis ∙ told.keeps.basis;
       right = left_inside (reading_by basis) basis.keys old (trees c.step_by.new.derivatives) (trees c.left.new.derivatives) p
-          (levels_in c.step_by.new.position.state.table) c.of-mark.result c.in_ok-left.left kept told.longer left.longer told.levels c.of-mark.ensures left.left;
+          (levels_in c.step_by.new.position.state.table) c.of-mark.result c.in_ok-left.left.value kept told.longer left.longer told.levels c.of-mark.ensures left.left;
     }
 
 pub returns-then-level-clause-progress : goal.returns-then-level-clause-progress
@@ -58,7 +58,7 @@ returns-then-level-clause-progress g c =
     let new = trees c.left.new.derivatives in
     let told = c.in_ok-step_by.ensures in
     let left = c.in_ok-left.ensures in
-    let l = c.in_ok-left.left in
+    let l = c.in_ok-left.left.value in
     let mark = c.of-mark.result in
     let n = c.step_by.new.position in
     let t = n.state.table in
