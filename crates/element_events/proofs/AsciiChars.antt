@@ -1,10 +1,9 @@
 -- A text of ASCII characters of XML has only characters of XML, and a name of ASCII characters is an NCName.
-use Rattle.std.proofs.Common.{◌≡◌, ℕ, ◌<◌, Bool, true, false, ◌&&◌, ◌||◌, not, List, [], ◌∷◌, refl, ap, sym, ◌∙◌, take, drop, arith, ⊎_elim}
+use Rattle.std.proofs.Common.{◌≡◌, ℕ, ◌==◌, ◌<◌, Bool, true, false, ◌&&◌, ◌||◌, ◌≤◌, not, List, [], ◌∷◌, refl, ap, sym, ◌∙◌, length, take, drop, arith, ⊎_elim}
 use Rattle.std.proofs.lemmas.Bool.{and_from, and_parts, or_cases, or_left, or_right}
 use Rattle.std.proofs.lemmas.Bool.Decides.{nat_tests}
-use Rattle.std.proofs.lemmas.List.{take-append-drop}
-use Rattle.std.proofs.lemmas.List.Folds.{list_all-append}
-use Rattle.std.specs.Prelude.{nat_le}
+use Rattle.std.proofs.Math.Dec.{eqb-suc-zero}
+use Rattle.std.specs.Prelude.{nat_le, zero, suc}
 use Rattle.std.specs.List.{list_all}
 use Rattle.std.specs.Str.{IsAscii}
 use Rattle.std.proofs.lemmas.Str.{chars-IsAscii}
@@ -33,15 +32,14 @@ all_chars (b ∷ bs) e = let p = and_parts (is_ascii_char b) (list_all is_ascii_
 pub ascii_chars : (bs : List ℕ) → list_all is_ascii_char bs ≡ true → are_xml_chars bs ≡ true
 ascii_chars bs e = ap (list_all is_xml_char) (chars-IsAscii bs (all_low bs e)) ∙ all_chars bs e
 
-both_parts : (n : ℕ) (bs : List ℕ) → list_all is_ascii_char bs ≡ (list_all is_ascii_char (take n bs) && list_all is_ascii_char (drop n bs))
-both_parts n bs = ap (list_all is_ascii_char) (sym (take-append-drop n bs)) ∙ list_all-append is_ascii_char (take n bs) (drop n bs)
-
--- if all bytes in front are characters, the rest decides
-pub all_in_rest : (front rest bs : List ℕ) (n : ℕ) (x y : Bool) → front ≡ take n bs → rest ≡ drop n bs → x ≡ list_all is_ascii_char front → x ≡ true →
-    y ≡ list_all is_ascii_char rest → y ≡ list_all is_ascii_char bs
-all_in_rest front rest bs n x y f r e t s =
-    s ∙ ap (list_all is_ascii_char) r
-    ∙ sym (both_parts n bs ∙ ap (λ (b : Bool). b && list_all is_ascii_char (drop n bs)) (sym (ap (list_all is_ascii_char) f) ∙ sym e ∙ t))
+-- the first ones and the last ones are all
+pub all_in_ends : (p : ℕ → Bool) (bs : List ℕ) (n m : ℕ) → m ≤ n → list_all p (take n bs) ≡ true → list_all p (drop m bs) ≡ true → list_all p bs ≡ true
+all_in_ends p [] n m h f e = refl
+all_in_ends p (b ∷ bs) n zero h f e = e
+all_in_ends p (b ∷ bs) zero (suc m) h f e = absurd (omega (arith, h))
+all_in_ends p (b ∷ bs) (suc n) (suc m) h f e =
+    let t = and_parts (p b) (list_all p (take n bs)) f in
+    and_from (p b) (list_all p bs) t.0 (all_in_ends p bs n m (omega (arith, h)) t.1 e)
 
 -- more ranges, in front and behind
 wider_starts : (a b c d e : Bool) → (b || (c || (d || false))) ≡ true → (a || (b || (c || (d || e)))) ≡ true
@@ -118,3 +116,10 @@ plain_chars bs e = all_weaker is_plain is_ascii_char plain_char bs e
 
 pub blank_chars : (bs : List ℕ) → is_blank bs ≡ true → list_all is_ascii_char bs ≡ true
 blank_chars bs e = all_weaker is_blank_byte is_ascii_char blank_char bs e
+
+pub blank_xml_chars : (bs : List ℕ) → is_blank bs ≡ true → are_xml_chars bs ≡ true
+blank_xml_chars bs e = ascii_chars bs (blank_chars bs e)
+
+pub no_chars : (bs : List ℕ) → (length bs == 0) ≡ true → are_xml_chars bs ≡ true
+no_chars [] e = ascii_chars [] refl
+no_chars (b ∷ bs) e = no_truth (sym (eqb-suc-zero (length bs)) ∙ e)

@@ -1,39 +1,39 @@
 // Characters of names and texts.
-ghost use Rattle.std.specs.Prelude.{◌≡◌, map};
+ghost use Rattle.std.specs.Prelude.{◌≡◌, ◌+◌, ◌≤◌, length, map, true};
 ghost use Rattle.std.specs.List.{list_all};
 ghost use Rattle.std.specs.Str.{chars};
 ghost use Rattle.rng_model.specs.names.Names.{is_ncname};
 ghost use Rattle.rng_model.specs.datatypes.Texts.{is_blank};
 ghost use Rattle.rng_model.specs.documents.Telling.{are_xml_chars, is_good_attribute, is_good_name};
-ghost use Rattle.element_events.specs.plain.AsciiChars.{flaw, is_ascii_char, is_ascii_name, is_ascii_part, is_ascii_start, is_plain};
+ghost use Rattle.element_events.specs.plain.AsciiChars.{is_ascii_char, is_ascii_name, is_ascii_part, is_ascii_start, is_plain};
 ghost use Rattle.element_events.specs.views.Told.{attribute_told, name_told};
 
 use crate::names::{Attribute, ExpandedName};
 use rng_model::{is_ncname, is_xml_char};
 
+/// How many bytes are looked at together.
+const RUN: usize = 16;
+
+const SHORT_RUN: usize = 8;
+
+/// Returns whether a byte is an ASCII character of XML. It has no branch, so many bytes can be looked at together.
 fn is_ascii_char(byte: u8) -> bool
     ensures { result ≡ is_ascii_char byte }
 {
-    (byte >= 0x20 || byte == b'\t' || byte == b'\n' || byte == b'\r') && byte < 0x80
+    ((byte >= 0x20) | (byte == b'\t') | (byte == b'\n') | (byte == b'\r')) & (byte < 0x80)
 }
 
-/// Returns 1 for a byte that is no ASCII character of XML.
-fn flaw(byte: u8) -> u8
-    ensures { result ≡ flaw (is_ascii_char byte) }
-{
-    if is_ascii_char(byte) { 0 } else { 1 }
-}
-
-/// Returns whether all bytes are ASCII characters of XML. It looks at all of them without an early exit, so many can be
-/// looked at together.
+/// Returns whether all bytes are ASCII characters of XML. It looks at all of them without an early exit. If their number is
+/// known, it has no loop.
+#[inline(always)]
 fn are_ascii_chars(bytes: &[u8]) -> bool
     ensures { result ≡ list_all is_ascii_char bytes.now }
 {
-    let mut flaws = 0;
+    let mut all = true;
     'bytes: for byte in bytes.iter() {
-        flaws |= flaw(*byte);
+        all &= is_ascii_char(*byte);
     }
-    flaws == 0
+    all
 }
 
 /// Returns whether all bytes are ASCII characters that are no control characters.
@@ -52,21 +52,53 @@ fn are_blank(bytes: &[u8]) -> bool
         .all(|byte| matches!(*byte, b' ' | b'\t' | b'\n' | b'\r'))
 }
 
-/// Returns whether all bytes are ASCII characters of XML. It is quick for a few bytes that are plain, or blank.
-#[tactic(auto, using(crate::proofs::AsciiChars::plain_chars, crate::proofs::AsciiChars::blank_chars))]
+/// Returns whether all bytes are ASCII characters of XML. It is quick for a few bytes that are plain.
+#[tactic(auto, using(crate::proofs::AsciiChars::plain_chars))]
 fn are_few_ascii_chars(bytes: &[u8]) -> bool
     ensures { result ≡ list_all is_ascii_char bytes.now }
 {
-    are_plain(bytes) || are_blank(bytes) || are_ascii_chars(bytes)
+    are_plain(bytes) || are_ascii_chars(bytes)
 }
 
-/// Returns whether all bytes are ASCII characters of XML. The last ones, which are no block of 8, are looked at one by
-/// one.
-fn is_ascii_text(bytes: &[u8]) -> bool
-    ensures { result ≡ list_all is_ascii_char bytes.now }
+/// Returns whether the first bytes and the last ones are ASCII characters of XML, so many each. These are all bytes, and some
+/// may be looked at twice.
+#[inline(always)]
+fn are_ends_ascii_chars(bytes: &[u8], count: usize) -> bool
+    requires { (count ≤ length bytes.now) × (length bytes.now ≤ count + count) }
+    ensures { result ≡ true → list_all is_ascii_char bytes.now ≡ true }
 {
-    let (blocks, rest) = bytes.split_at(bytes.len() - bytes.len() % 8);
-    are_ascii_chars(blocks) && are_few_ascii_chars(rest)
+    let last = bytes.len() - count;
+    are_ascii_chars(&bytes[..count]) & are_ascii_chars(&bytes[last..])
+}
+
+/// Returns whether all bytes are ASCII characters of XML, where there are so many that runs of them are looked at.
+fn are_runs_ascii_chars(bytes: &[u8]) -> bool
+    requires { 16 ≤ length bytes.now }
+    ensures { result ≡ true → list_all is_ascii_char bytes.now ≡ true }
+{
+    let mut rest = bytes;
+    'runs: while rest.len() > 2 * RUN {
+        let (run, behind) = rest.split_at(RUN);
+        if !are_ascii_chars(run) {
+            return false;
+        }
+        rest = behind;
+    }
+    are_ends_ascii_chars(rest, RUN)
+}
+
+/// Returns whether all bytes are ASCII characters of XML. A few are looked at one by one, and more in runs.
+fn is_ascii_text(bytes: &[u8]) -> bool
+    ensures { result ≡ true → list_all is_ascii_char bytes.now ≡ true }
+{
+    let size = bytes.len();
+    if size < SHORT_RUN {
+        return are_few_ascii_chars(bytes);
+    }
+    if size < RUN {
+        return are_ends_ascii_chars(bytes, SHORT_RUN);
+    }
+    are_runs_ascii_chars(bytes)
 }
 
 /// Returns whether each character may occur in an XML document.
@@ -75,6 +107,15 @@ pub fn are_xml_chars(text: &str) -> bool
     ensures { result ≡ are_xml_chars text.now }
 {
     is_ascii_text(text.as_bytes()) || text.chars().all(|c| is_xml_char(c))
+}
+
+/// Returns whether each character may occur in an XML document, where it is known whether the text is blank. A blank one is
+/// not looked at again.
+#[tactic(auto, using(crate::proofs::AsciiChars::blank_xml_chars))]
+pub fn is_good_text(text: &str, blank: bool) -> bool
+    ensures { blank ≡ is_blank text.now → result ≡ are_xml_chars text.now }
+{
+    blank || are_xml_chars(text)
 }
 
 fn is_ascii_start(byte: u8) -> bool
@@ -112,11 +153,21 @@ fn is_local_name(text: &str) -> bool
     is_ascii_name(text.as_bytes()) || is_ncname(text)
 }
 
+/// Returns whether a namespace has characters of XML alone. Costs little for the usual one, which is empty.
+fn is_good_namespace(namespace: &str) -> bool
+    ensures { result ≡ are_xml_chars namespace.now }
+{
+    if namespace.is_empty() {
+        return true;
+    }
+    are_xml_chars(namespace)
+}
+
 /// Returns whether the local name is an NCName, and the namespace has characters of XML alone.
 pub fn is_good_name(name: ExpandedName<'_>) -> bool
     ensures { result ≡ is_good_name (name_told name.entry) }
 {
-    are_xml_chars(name.namespace) && is_local_name(name.local)
+    is_good_namespace(name.namespace) && is_local_name(name.local)
 }
 
 fn is_good_attribute(attribute: Attribute<'_>) -> bool

@@ -20,7 +20,7 @@ use std::marker::Model;
 /// space is passed over. There is no limit but memory on how deep elements nest, how many attributes a tag has and how
 /// long a text is. More than 2^64 - 1 open elements count as out of memory. Only the text that is joined, the number of
 /// open elements, up to 255 names and buffers are kept. The buffers are those of the last tag and the longest text, and
-/// some for names.
+/// small ones for names and for 64 attributes.
 ///
 /// A call fails with `EventFault::NotWellFormed` exactly if no document begins with the calls so far: characters are
 /// those of XML, local names are NCNames, the attributes of a tag have distinct expanded names, ends match starts, and

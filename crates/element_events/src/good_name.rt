@@ -15,7 +15,7 @@ pub struct GoodName {
 }
 
 /// Returns whether two namespaces are the same. Costs little for the usual one, which is empty.
-fn is_same(a: &str, b: &str) -> bool
+pub fn is_same(a: &str, b: &str) -> bool
     ensures { result ≡ true → a.now ≡ b.now }
 {
     if b.is_empty() {

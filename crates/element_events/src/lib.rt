@@ -4,6 +4,7 @@
 //! joins texts that follow each other, and refuses a call exactly if no document begins with the calls so far.
 #![tactic(auto)]
 
+mod attributes;
 mod characters;
 mod elements;
 mod fault;

@@ -1,7 +1,7 @@
 // Buffers that are used again.
-ghost use Rattle.std.specs.Prelude.{◌≡◌, [], IfOk, string_bytes};
+ghost use Rattle.std.specs.Prelude.{◌≡◌, IfOk, string_bytes};
 
-use rng_model::{Attr, OutOfMemory};
+use rng_model::OutOfMemory;
 use std::alloc::Global;
 
 /// The most buffers that are kept, and the most bytes that each may hold.
@@ -9,7 +9,7 @@ const COUNT_LIMIT: usize = 256;
 
 const SIZE_LIMIT: usize = 1_024;
 
-/// Buffers of names and values for reuse. Their contents mean nothing.
+/// Buffers of names for reuse. Their contents mean nothing.
 #[derive(Drop)]
 pub struct Spares {
     texts: Vec<String>,
@@ -41,17 +41,6 @@ impl Spares {
         let size = text.capacity();
         if self.texts.len() < COUNT_LIMIT && 0 < size && size <= SIZE_LIMIT {
             let _ = self.texts.push(text);
-        }
-    }
-
-    /// Removes all attributes and keeps their buffers.
-    pub fn keep_all(&mut self, attrs: &mut Vec<Attr>)
-        ensures { attrs.new.items ≡ [] }
-    {
-        'attributes: while let Some(attr) = attrs.pop() {
-            let Attr { name, value } = attr;
-            self.keep(name.local);
-            self.keep(value);
         }
     }
 }

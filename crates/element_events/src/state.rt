@@ -1,6 +1,7 @@
 // Calls one by one.
 ghost use Rattle.std.specs.Prelude.{◌≡◌, ◌↔◌, ◌&&◌, ◌==◌, ℕ, [], ◌∷◌, IfOk, None, OnOk, false, length, true};
 ghost use Rattle.rng_model.specs.documents.EventViews.{Hands};
+ghost use Rattle.rng_model.specs.datatypes.Texts.{is_blank};
 ghost use Rattle.rng_model.specs.documents.PyxTrees.{a_string, an_end};
 ghost use Rattle.rng_model.specs.documents.Telling.{IsGood, string_at};
 ghost use Rattle.element_events.specs.plain.Calls.{nothing_taken};
@@ -8,7 +9,7 @@ ghost use Rattle.element_events.specs.views.Known.{tag_name};
 ghost use Rattle.element_events.specs.views.Told.{call, name_told, start_told};
 ghost use Rattle.element_events.specs.views.Kept.{Takes, TakesText, passed_after, passes, state_of};
 
-use crate::characters::{are_good_attributes, are_xml_chars, is_blank};
+use crate::characters::{are_good_attributes, is_blank, is_good_text};
 use crate::fault::EventFault;
 use crate::names::{Attribute, ExpandedName};
 use crate::repeats::are_distinct;
@@ -149,13 +150,13 @@ impl State {
         Ok(())
     }
 
-    /// Passes over a text within an element.
-    fn pass(&mut self, text: &str)
+    /// Passes over a text within an element, which is blank or not.
+    fn pass(&mut self, text: &str, blank: bool)
         ensures state { state_of self.new ≡ state_of self.old }
-        ensures passed { self.new.passed ≡ passed_after text.now self.old.passed }
+        ensures passed { blank ≡ is_blank text.now → self.new.passed ≡ passed_after text.now self.old.passed }
     {
         if !text.is_empty() {
-            self.passed = Some(self.passed.unwrap_or(true) && is_blank(text));
+            self.passed = Some(self.passed.unwrap_or(true) && blank);
         }
     }
 
@@ -172,18 +173,19 @@ impl State {
         ensures kept { keeps ≡ true → self.old.passed ≡ None → self.new.passed ≡ None }
         ensures held { OnOk result (keeps ≡ false → (state_of self.old).text ≡ [] → (state_of self.new).text ≡ []) }
     {
-        if !are_xml_chars(text) {
+        let blank = is_blank(text);
+        if !is_good_text(text, blank) {
             return Err(EventFault::NotWellFormed);
         }
         if self.depth == 0 {
-            return if is_blank(text) {
+            return if blank {
                 Ok(())
             } else {
                 Err(EventFault::NotWellFormed)
             };
         }
         if self.passes(keeps) {
-            self.pass(text);
+            self.pass(text, blank);
         } else {
             self.text.push_str(text)?;
         }

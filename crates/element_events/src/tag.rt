@@ -1,18 +1,19 @@
 // The tag that is handed out.
-ghost use Rattle.std.specs.Prelude.{◌≡◌, [], map, IfOk, None, OnOk, true};
+ghost use Rattle.std.specs.Prelude.{◌≡◌, map, IfOk, None, OnOk, true};
 ghost use Rattle.rng_model.specs.names.NameViews.{name_of};
-ghost use Rattle.rng_model.specs.documents.EventViews.{attribute_of, event_kind_of};
+ghost use Rattle.rng_model.specs.documents.EventViews.{event_kind_of};
 ghost use Rattle.rng_model.specs.documents.PyxTrees.{a_start};
 ghost use Rattle.rng_model.specs.documents.Telling.{is_good_name};
-ghost use Rattle.element_events.specs.views.Known.{tag_name};
+ghost use Rattle.element_events.specs.views.Known.{attributes_in, tag_name};
 ghost use Rattle.element_events.specs.views.Told.{attribute_told, name_told};
 
+use crate::attributes::Attributes;
 use crate::characters::is_good_name;
 use crate::known::{KnownNames, is_short};
 use crate::names::{Attribute, ExpandedName};
 use crate::namespaces::Namespaces;
 use crate::spares::Spares;
-use rng_model::{Attr, EventKind, Name, Namespace, OutOfMemory};
+use rng_model::{EventKind, Name, Namespace, OutOfMemory};
 use std::alloc::Global;
 
 /// The name and the attributes of the last tag, and names and buffers for the next one.
@@ -21,7 +22,7 @@ pub struct Tag {
     /// The place of the name among those that are known. If there is none, the name is the tag's own.
     place: Option<usize>,
     own: Name,
-    attrs: Vec<Attr>,
+    attrs: Attributes,
     spares: Spares,
     namespaces: Namespaces,
     known: KnownNames,
@@ -36,7 +37,7 @@ impl Tag {
                 ns: Namespace::none(),
                 local: String::new(alloc),
             },
-            attrs: Vec::new(alloc),
+            attrs: Attributes::new(alloc),
             spares: Spares::new(alloc),
             namespaces: Namespaces::new(alloc),
             known: KnownNames::new(alloc),
@@ -45,7 +46,7 @@ impl Tag {
 
     /// Returns the start of an element that has this tag.
     pub fn start(&self) -> EventKind<'_>
-        ensures { event_kind_of result ≡ a_start (tag_name self.now) (map attribute_of self.now.attrs.items) }
+        ensures { event_kind_of result ≡ a_start (tag_name self.now) (attributes_in self.now.attrs) }
     {
         EventKind::Start {
             name: self.known.name_or(self.place, &self.own),
@@ -70,8 +71,6 @@ impl Tag {
     /// Returns a copy of a name.
     fn copied(&mut self, alloc: Global, name: ExpandedName<'_>) -> Result<Name, OutOfMemory>
         ensures copy { IfOk result (λ copy. name_of copy ≡ name_told name.entry) }
-        ensures name { tag_name self.new ≡ tag_name self.old }
-        ensures attributes { self.new.attrs.items ≡ self.old.attrs.items }
     {
         Ok(Name {
             ns: self.namespaces.namespace(alloc, name.namespace)?,
@@ -111,18 +110,6 @@ impl Tag {
         Ok(true)
     }
 
-    /// Returns a copy of an attribute.
-    fn attribute(&mut self, alloc: Global, attribute: Attribute<'_>) -> Result<Attr, OutOfMemory>
-        ensures attribute { IfOk result (λ a. attribute_of a ≡ attribute_told attribute.entry) }
-        ensures name { tag_name self.new ≡ tag_name self.old }
-        ensures attributes { self.new.attrs.items ≡ self.old.attrs.items }
-    {
-        Ok(Attr {
-            name: self.copied(alloc, attribute.name)?,
-            value: self.spares.copy(alloc, attribute.value)?,
-        })
-    }
-
     /// Replaces the attributes by copies of these. If their names and values are short, and their namespaces were told
     /// lately, it takes no memory once there are buffers.
     pub fn set_attributes(
@@ -130,14 +117,9 @@ impl Tag {
         alloc: Global,
         attributes: &[Attribute<'_>],
     ) -> Result<(), OutOfMemory>
-        ensures name { OnOk result (tag_name self.new ≡ tag_name self.old) }
-        ensures attributes { OnOk result (map attribute_of self.new.attrs.items ≡ map attribute_told attributes.now) }
+        ensures name { tag_name self.new ≡ tag_name self.old }
+        ensures attributes { OnOk result (attributes_in self.new.attrs ≡ map attribute_told attributes.now) }
     {
-        self.spares.keep_all(&mut self.attrs);
-        'attributes: for attribute in attributes {
-            let attr = self.attribute(alloc, *attribute)?;
-            self.attrs.push(attr)?;
-        }
-        Ok(())
+        self.attrs.set(alloc, &mut self.namespaces, attributes)
     }
 }

@@ -1,5 +1,5 @@
 -- Bytes that show without decoding that a text has only characters of XML, or is an NCName.
-use Rattle.std.specs.Prelude.{ℕ, List, [], ◌∷◌, Bool, false, ◌&&◌, ◌||◌, ◌==◌, nat_le, nat_lt, if◌then◌else◌}
+use Rattle.std.specs.Prelude.{ℕ, List, [], ◌∷◌, Bool, false, ◌&&◌, ◌||◌, ◌==◌, nat_le, nat_lt}
 use Rattle.std.specs.List.{list_all}
 use Rattle.rng_model.specs.names.Names.{is_in_ranges}
 
@@ -10,9 +10,6 @@ is_ascii_char b = (nat_le 0x20 b || b == 0x9 || b == 0xA || b == 0xD) && nat_lt 
 -- no control character
 abbrev pub is_plain : ℕ → Bool
 is_plain b = nat_le 0x20 b && nat_le b 0x7F
-
-abbrev pub flaw : Bool → ℕ
-flaw good = if good then 0 else 1
 
 -- a letter, or `_`
 abbrev pub is_ascii_start : ℕ → Bool
