@@ -125,11 +125,11 @@ module _ (g : Reading) where
 pub lacking_tag : LackingTagIsInvalid
 lacking_tag g m k es line q tag n xs stands settles is required lacking =
     untaken_start g m k es line q xs stands settles (no_body_takes g k.now q tag is xs (λ b ns c d.
-    let h = has_needed g n d (All-contains (Needs n) is.bodies b ((is.required n).0 required).1 c) in
+    let h = has_needed g n d (All-contains (Needs n) is.bodies b ((is.has.required n).0 required).1 c) in
     no_name_among lacking h.0 h.1 h.2))
 
 pub other_attribute : OtherAttributeIsInvalid
 other_attribute g m k es line q tag x xs stands settles is among none =
     untaken_start g m k es line q xs stands settles (no_body_takes g k.now q tag is xs (λ b ns c d.
     let h = has_place g x d among in
-    ⊎_elim (λ told. none h.0 told h.2) (λ empty. empty x.name h.2) (is.all b h.0 c h.1)))
+    ⊎_elim (λ told. none h.0 told h.2) (λ empty. empty x.name h.2) (is.has.all b h.0 c h.1)))

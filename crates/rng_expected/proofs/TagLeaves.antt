@@ -22,7 +22,7 @@ use Rattle.rng_deriv_table.specs.declared.pattern.PatternNumber.{PatternNumber}
 use Rattle.rng_deriv_ways.proofs.PatternNodes.{IsStringLeaf, a_list, a_datatype, an_except, a_value, found_string, is_over}
 use Rattle.rng_expected.specs.Tags.{HoldsNone}
 use Rattle.rng_expected.specs.plain.Leaves.{IsLeafAt, is_leaf}
-use Rattle.rng_expected.specs.plain.TagLeaves.{AreBodiesOf, AreClassesOf, IsBody, IsBodyLike, IsClass, IsClassOf, IsNamed, IsOfClass}
+use Rattle.rng_expected.specs.plain.TagLeaves.{AreClassesOf, AreTold, HasContent, IsClass, IsClassOf, IsContentAt, IsNamed, IsOfClass, IsTold}
 use Rattle.rng_expected.specs.declared.leaves.Standing.TheVariants as standings
 
 -- ---- one leaf of the table
@@ -107,6 +107,21 @@ no_class_in t p other c has = no_name c has.0 (sym (none p other) ∙ has.1)
     none (simple.Interleave a b) other = refl
     none (simple.Choice a b) other = refl
 
+-- ---- what a leaf is
+
+module _ (t : Table) (ns : List Node) (q : Name) where
+  -- it is at most one element
+  pub one_element : (n : PatternNumber) (k l : ℕ) → IsNamed t ns q n k → IsNamed t ns q n l → k ≡ l
+  one_element n k l a b = let same : s_leaf k ≡ s_leaf l = sym a.0 ∙ b.0 in cc
+
+  -- it has at most one content
+  pub one_content : (n : PatternNumber) (p r : Simple ℕ) → HasContent t ns q n p → HasContent t ns q n r → p ≡ r
+  one_content n p r a b = let same : s_attribute a.0 p ≡ s_attribute b.0 r = sym a.1 ∙ b.1 in cc
+
+  -- one whose class need not be told has no content for the name
+  pub no_content : (n : PatternNumber) (p : Simple ℕ) → tree_of t ns n.0 ≡ p → IsClassOf p None → IsContentAt t ns q n None
+  no_content n p is none = λ content has. none has.0 (content, sym is ∙ has.1) q has.2
+
 -- ---- one more leaf
 
 -- an item of a list with one more item at its end
@@ -137,38 +152,36 @@ module _ (t : Table) (ns : List Node) (found : List PatternNumber) (i : ℕ) (d 
   abbrev leaf : PatternNumber
   leaf = get_or found i d
 
-  -- ---- bodies
+  -- ---- what is told for leaves
 
-  module _ (q : Name) (bodies : List PatternNumber) (was : AreBodiesOf t ns q (take i found) bodies) where
-    pub no_body : IsBody t ns q leaf None → AreBodiesOf t ns q (take (i + 1) found) bodies
-    no_body none = record {
+  module _ {A : Type 0} (Is : PatternNumber → A → Type 0) (Tells : A → PatternNumber → Type 0) (told : List PatternNumber)
+      (was : AreTold ns Is Tells (take i found) told) where
+    pub none_told : IsTold ns Is Tells leaf None → AreTold ns Is Tells (take (i + 1) found) told
+    none_told none = record {
       inside = was.inside;
       each = λ b c. let h = was.each b c in (h.0, h.1, earlier found i d within h.0 h.2, h.3, h.4);
-      all = λ n k c named. ⊎_elim
-          (λ before. was.all n k before named)
-          (λ e. absurd (none k (subst (λ n. IsNamed t ns q n k) (sym e) named)))
+      all = λ n k c is. ⊎_elim
+          (λ before. was.all n k before is)
+          (λ e. absurd (none k (subst (λ n. Is n k) (sym e) is)))
           (earlier_or_this found i d within n c);
     }
 
-    pub one_body : (b : PatternNumber) (more : List PatternNumber) → IsBody t ns q leaf (Some b) → more ≡ bodies ++ b ∷ []
-        → AreBodiesOf t ns q (take (i + 1) found) more
-    one_body b more body added = record {
+    -- given that a leaf is at most one
+    pub one_told : ((n : PatternNumber) (k l : A) → Is n k → Is n l → k ≡ l) → (b : PatternNumber) (more : List PatternNumber)
+        → IsTold ns Is Tells leaf (Some b) → more ≡ told ++ b ∷ [] → AreTold ns Is Tells (take (i + 1) found) more
+    one_told once b more one added = record {
       inside = subst (All (λ (b : PatternNumber). b.0 < length ns)) (sym added)
-          (All-append (λ (b : PatternNumber). b.0 < length ns) bodies (b ∷ []) was.inside
-          (All-cons (λ (b : PatternNumber). b.0 < length ns) b [] body.0 (All-nil (λ (b : PatternNumber). b.0 < length ns))));
+          (All-append (λ (b : PatternNumber). b.0 < length ns) told (b ∷ []) was.inside
+          (All-cons (λ (b : PatternNumber). b.0 < length ns) b [] one.0 (All-nil (λ (b : PatternNumber). b.0 < length ns))));
       each = λ x c. ⊎_elim
           (λ before. let h = was.each x before in (h.0, h.1, earlier found i d within h.0 h.2, h.3, h.4))
-          (λ e. (leaf, body.1.0, this found i d within, body.1.1, subst (IsBodyLike t ns body.1.0) e body.1.2))
-          (kept_or_pushed bodies more b added x c);
-      all = λ n k c named. ⊎_elim
-          (λ before. let h = was.all n k before named in (h.0, kept bodies more b added h.0 h.1, h.2))
-          (λ e. (b, pushed bodies more b added, subst (λ k. IsBodyLike t ns k b) (same_number n k named e) body.1.2))
+          (λ e. (leaf, one.1.0, this found i d within, one.1.1, subst (Tells one.1.0) e one.1.2))
+          (kept_or_pushed told more b added x c);
+      all = λ n k c is. ⊎_elim
+          (λ before. let h = was.all n k before is in (h.0, kept told more b added h.0 h.1, h.2))
+          (λ e. (b, pushed told more b added, subst (λ k. Tells k b) (once n one.1.0 k (subst (λ n. Is n one.1.0) e one.1.1) is) one.1.2))
           (earlier_or_this found i d within n c);
     }
-      where
-        same_number : (n : PatternNumber) (k : ℕ) → IsNamed t ns q n k → leaf ≡ n → body.1.0 ≡ k
-        same_number n k named e =
-            let same : s_leaf body.1.0 ≡ s_leaf k = sym body.1.1.0 ∙ ap (λ (n : PatternNumber). tree_of t ns n.0) e ∙ named.0 in cc
 
   -- ---- name classes
 

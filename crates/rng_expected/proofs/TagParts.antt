@@ -2,7 +2,7 @@
 use Rattle.std.proofs.Common.{◌≡◌, ◌↔◌, inl, inr, ℕ, List, [], map, refl, sym, subst, ⊎_elim, Contains}
 use Rattle.std.proofs.lemmas.List.Elements.{All-contains, All-map}
 use Rattle.rng_model.proofs.Members.{all_from_members, contains_mapped, not_in_none}
-use Rattle.rng_model.specs.names.Names.{Name}
+use Rattle.rng_model.specs.names.Names.{Name, NameClass}
 use Rattle.rng_model.specs.matching.GrammarMatching.{reading_of}
 use Rattle.rng_model.specs.simple.Table.{Table}
 use Rattle.rng_model.specs.simple.Tree.{Simple, choice, group, interleave, s_not_allowed, s_empty, s_text, s_leaf, s_attribute, s_list, s_data}
@@ -12,10 +12,11 @@ use Rattle.rng_deriv_laws.specs.plain.Taking.{Same}
 use Rattle.rng_deriv_table.specs.views.Node.{Node}
 use Rattle.rng_deriv_table.specs.views.Trees.{tree_of}
 use Rattle.rng_deriv_table.specs.declared.pattern.PatternNumber.{PatternNumber}
+use Rattle.rng_expected.specs.AttributeValues.{AreContents}
 use Rattle.rng_expected.specs.Expectations.{BeginsWith}
-use Rattle.rng_expected.specs.Tags.{AreBodies, HasAttribute, IsTag, MayBegin, Needs, Tag, no_tag}
+use Rattle.rng_expected.specs.Tags.{AreBodies, HasAttribute, IsTag, IsTagOf, MayBegin, Needs, Tag, no_tag}
 use Rattle.rng_expected.specs.plain.Leaves.{AreLeaves, Stands}
-use Rattle.rng_expected.specs.plain.TagLeaves.{AreBodiesOf, AreClassesOf, AreNeeded, IsNamed}
+use Rattle.rng_expected.specs.plain.TagLeaves.{AreBodiesOf, AreClassesOf, AreContentsOf, AreNeeded, IsNamed}
 use Rattle.rng_expected.specs.declared.leaves.Standing.TheVariants as standings
 use Rattle.rng_expected.proofs.FoundLeaves.{member_before}
 use Rattle.rng_expected.proofs.NextLeaves.{begins_first}
@@ -77,40 +78,68 @@ module _ (t : Table) (ns : List Node) (ps starts bodies : List PatternNumber) (q
         (of h.0, contains_mapped of bodies h.0 h.1, h.2);
   }
 
-module _ (t : Table) (ns : List Node) (ps bodies attributes : List PatternNumber) (q : Name) (tag : Tag) where
+module _ (t : Table) (ns : List Node) (ps attributes : List PatternNumber) where
   abbrev tree : PatternNumber → Simple ℕ
   tree n = tree_of t ns n.0
 
-  pub is_tag : AreBodies (reading_of t) (map tree ps) q (map tree bodies) → AreLeaves standings.InTag t ns bodies attributes
-      → AreClassesOf t ns attributes tag.attributes → AreNeeded t ns bodies tag.attributes tag.required → IsTag (reading_of t) (map tree ps) q tag
-  is_tag those inside are needed = record {
-    bodies = map tree bodies;
-    are = those;
-    each = λ c h.
-        let n = are.each c h in
-        let m = (inside.law (s_attribute c n.2.0)).1 (n.0, n.1, sym n.2.1) in
-        (tree m.0, contains_mapped tree bodies m.0 m.1, (n.2.0, (has_attribute (tree m.0) (s_attribute c n.2.0)).1 m.2));
-    all = λ b c h has.
-        let m = member_before tree b bodies h in
-        let here = subst (λ p. HasAttribute p (s_attribute c has.0)) (sym m.2) has.1 in
-        let o = (inside.law (s_attribute c has.0)).0 (m.0, m.1, (has_attribute (tree m.0) (s_attribute c has.0)).0 here) in
-        are.all o.0 c o.1 (has.0, sym o.2);
-    required = λ n. (
-      λ h. let d = (needed n).0 h in (d.0, All-map (Needs n) tree bodies d.1),
-      λ d. (needed n).1 (
-        d.0,
-        all_from_members (λ (b : PatternNumber). Needs n (tree b)) bodies
-            (λ b c. All-contains (Needs n) (map tree bodies) (tree b) d.1 (contains_mapped tree bodies b c)),
-      ),
-    );
-  }
+  -- ---- the attributes of patterns
+
+  module _ (inside : AreLeaves standings.InTag t ns ps attributes) where
+    -- an attribute that is found is in a pattern
+    in_pattern : (n : PatternNumber) (c : NameClass) (content : Simple ℕ) → Contains attributes n → tree n ≡ s_attribute c content
+        → (m : PatternNumber) × Contains ps m × HasAttribute (tree m) (s_attribute c content)
+    in_pattern n c content there is =
+        let m = (inside.law (s_attribute c content)).1 (n, there, sym is) in
+        (m.0, m.1, (has_attribute (tree m.0) (s_attribute c content)).1 m.2)
+
+    -- one in a pattern is found
+    is_found : (p : Simple ℕ) (c : NameClass) (content : Simple ℕ) → Contains (map tree ps) p → HasAttribute p (s_attribute c content)
+        → (n : PatternNumber) × Contains attributes n × (tree n ≡ s_attribute c content)
+    is_found p c content there has =
+        let m = member_before tree p ps there in
+        let here = subst (λ p. HasAttribute p (s_attribute c content)) (sym m.2) has in
+        let o = (inside.law (s_attribute c content)).0 (m.0, m.1, (has_attribute (tree m.0) (s_attribute c content)).0 here) in
+        (o.0, o.1, sym o.2)
+
+    pub is_tag : (tag : Tag) → AreClassesOf t ns attributes tag.attributes → AreNeeded t ns ps tag.attributes tag.required → IsTagOf (map tree ps) tag
+    is_tag tag are needed = record {
+      each = λ c h.
+          let n = are.each c h in
+          let m = in_pattern n.0 c n.2.0 n.1 n.2.1 in
+          (tree m.0, contains_mapped tree ps m.0 m.1, (n.2.0, m.2));
+      all = λ p c h has. let o = is_found p c has.0 h has.1 in are.all o.0 c o.1 (has.0, o.2);
+      required = λ n. (
+        λ h. let d = (needed n).0 h in (d.0, All-map (Needs n) tree ps d.1),
+        λ d. (needed n).1 (
+          d.0,
+          all_from_members (λ (b : PatternNumber). Needs n (tree b)) ps
+              (λ b c. All-contains (Needs n) (map tree ps) (tree b) d.1 (contains_mapped tree ps b c)),
+        ),
+      );
+    }
+
+    pub are_contents : (q : Name) (contents : List PatternNumber) → AreContentsOf t ns q attributes contents
+        → AreContents (reading_of t) (map tree ps) q (map tree contents)
+    are_contents q contents those = record {
+      each = λ p c.
+          let b = member_before tree p contents c in
+          let h = those.each b.0 b.1 in
+          let m = in_pattern h.0 h.3.0 h.1 h.2 h.3.1 in
+          (h.1, (tree m.0, h.3.0, contains_mapped tree ps m.0 m.1, m.2, h.3.2), subst (λ p. Same (reading_of t) p h.1) b.2 h.4);
+      all = λ content is.
+          let n = is_found is.0 is.1 content is.2 is.3 in
+          let h = those.all n.0 content n.1 (is.1, n.2, is.4) in
+          (tree h.0, contains_mapped tree contents h.0 h.1, h.2);
+    }
 
 -- where nothing is left
 pub no_tag_there : (t : Table) (q : Name) (tag : Tag) → tag ≡ no_tag → IsTag (reading_of t) [] q tag
 no_tag_there t q tag is = subst (IsTag (reading_of t) [] q) (sym is) (record {
   bodies = [];
   are = record { each = λ b c. absurd (not_in_none c); all = λ k may. absurd (not_in_none may.0.2) };
-  each = λ c h. absurd (not_in_none h);
-  all = λ b c h has. absurd (not_in_none h);
-  required = λ n. (λ h. absurd (not_in_none h), λ d. absurd (not_in_none d.0));
+  has = record {
+    each = λ c h. absurd (not_in_none h);
+    all = λ b c h has. absurd (not_in_none h);
+    required = λ n. (λ h. absurd (not_in_none h), λ d. absurd (not_in_none d.0));
+  };
 })

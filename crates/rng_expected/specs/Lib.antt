@@ -1,3 +1,4 @@
+pub mod AttributeValues
 pub mod Expectations
 pub mod Laws
 pub mod Tags

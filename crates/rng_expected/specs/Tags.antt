@@ -64,11 +64,15 @@ pub record Tag : Type 0 where
 abbrev pub no_tag : Tag
 no_tag = record { attributes = []; required = [] }
 
+-- These attributes the patterns have, and each pattern needs these names. A class without names need not be there.
+pub record IsTagOf (ps : List (Simple ℕ)) (tag : Tag) : Type 0 where
+  pub each : (c : NameClass) → Contains tag.attributes c → (p : Simple ℕ) × Contains ps p × HasAttributeOf p c
+  pub all : (p : Simple ℕ) (c : NameClass) → Contains ps p → HasAttributeOf p c → Contains tag.attributes c ⊎ HoldsNone c
+  pub required : (n : Name) → Contains tag.required n ↔ (Contains tag.attributes (name_is n) × All (Needs n) ps)
+
 -- These attributes a start of this name may have next, in whichever of the elements that it may begin, and without these
--- names it begins none of them. A class without names need not be there.
+-- names it begins none of them.
 pub record IsTag (g : Reading) (now : List (Simple ℕ)) (q : Name) (tag : Tag) : Type 0 where
   pub bodies : List (Simple ℕ)
   pub are : AreBodies g now q bodies
-  pub each : (c : NameClass) → Contains tag.attributes c → (b : Simple ℕ) × Contains bodies b × HasAttributeOf b c
-  pub all : (b : Simple ℕ) (c : NameClass) → Contains bodies b → HasAttributeOf b c → Contains tag.attributes c ⊎ HoldsNone c
-  pub required : (n : Name) → Contains tag.required n ↔ (Contains tag.attributes (name_is n) × All (Needs n) bodies)
+  pub has : IsTagOf bodies tag

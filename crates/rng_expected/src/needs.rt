@@ -11,29 +11,30 @@ ghost use Rattle.rng_expected.specs.Tags.{Needs};
 ghost use Rattle.rng_expected.specs.plain.TagLeaves.{AllNeed, AreNeeded, AreTests, IsNoName};
 
 use rng_deriv_table::{Pattern, PatternNumber, PatternTable};
-use rng_deriv_ways::Context;
 use rng_model::{Name, NameClass, OutOfMemory, PatternId, Simple, SimpleGrammar};
 use rng_names::is_same_name;
+use std::alloc::Global;
 
 /// Returns the names among the classes that each of the bodies needs.
 pub fn needed_of<'a>(
-    context: &Context<'_>,
+    alloc: Global,
+    grammar: &SimpleGrammar,
     table: &PatternTable,
     bodies: &[PatternNumber],
     classes: &[&'a NameClass],
 ) -> Result<Vec<&'a Name>, OutOfMemory>
-    requires grammar { IsTable context.now.grammar.now }
+    requires grammar { IsTable grammar.now }
     requires bodies { All (λ b. b.0 < length table.now) bodies.now }
     requires classes { All (λ c. IsPaired c.now) classes.now }
-    ensures { IfOk result (λ needed. AreNeeded context.now.grammar.now table.now bodies.now
+    ensures { IfOk result (λ needed. AreNeeded grammar.now table.now bodies.now
         (map (λ c. class_of c.now) classes.now) (map (λ n. name_of n.now) needed.items)) }
 {
-    let mut needed = Vec::new(context.alloc);
+    let mut needed = Vec::new(alloc);
     'classes: for class in classes {
         let Some(name) = only_name(class) else {
             continue;
         };
-        if is_needed(context, table, bodies, name)? {
+        if is_needed(alloc, grammar, table, bodies, name)? {
             needed.push(name)?;
         }
     }
@@ -42,16 +43,17 @@ pub fn needed_of<'a>(
 
 /// Returns whether each of the bodies needs the name.
 fn is_needed(
-    context: &Context<'_>,
+    alloc: Global,
+    grammar: &SimpleGrammar,
     table: &PatternTable,
     bodies: &[PatternNumber],
     name: &Name,
 ) -> Result<bool, OutOfMemory>
-    requires grammar { IsTable context.now.grammar.now }
+    requires grammar { IsTable grammar.now }
     requires bodies { All (λ b. b.0 < length table.now) bodies.now }
-    ensures { IfOk result (λ b. (b ≡ true) ↔ AllNeed context.now.grammar.now table.now (name_of name.now) bodies.now) }
+    ensures { IfOk result (λ b. (b ≡ true) ↔ AllNeed grammar.now table.now (name_of name.now) bodies.now) }
 {
-    let tests = tests_of(context, table, name)?;
+    let tests = tests_of(alloc, grammar, table, name)?;
     'bodies: for body in bodies {
         if !tests[body.0] {
             return Ok(false);
@@ -62,18 +64,19 @@ fn is_needed(
 
 /// Returns of each pattern of the table whether it needs the name.
 fn tests_of(
-    context: &Context<'_>,
+    alloc: Global,
+    grammar: &SimpleGrammar,
     table: &PatternTable,
     name: &Name,
 ) -> Result<Vec<bool>, OutOfMemory>
-    requires { IsTable context.now.grammar.now }
+    requires { IsTable grammar.now }
     ensures long { IfOk result (λ tests. length tests.items ≡ length table.now) }
-    ensures tests { IfOk result (λ tests. AreTests context.now.grammar.now table.now (name_of name.now) tests.items) }
+    ensures tests { IfOk result (λ tests. AreTests grammar.now table.now (name_of name.now) tests.items) }
 {
-    let mut tests = Vec::new(context.alloc);
+    let mut tests = Vec::new(alloc);
     'rows: while tests.len() < table.len() {
         let pattern = table.pattern(PatternNumber(tests.len()));
-        let test = needs(context.grammar, pattern, name, tests.as_slice());
+        let test = needs(grammar, pattern, name, tests.as_slice());
         tests.push(test)?;
     }
     Ok(tests)

@@ -8,7 +8,7 @@ ghost use Rattle.rng_model.specs.simple.Table.{Table};
 ghost use Rattle.rng_deriv_laws.specs.plain.Restricted.{IsRestricted};
 ghost use Rattle.rng_deriv_table.specs.views.Trees.{attribute_found, tree_of};
 ghost use Rattle.rng_deriv_ways.specs.plain.Starting.{HasRestrictedBodies, IsReady};
-ghost use Rattle.rng_expected.specs.Tags.{AreBodies, IsTag, no_tag};
+ghost use Rattle.rng_expected.specs.Tags.{AreBodies, IsTag, IsTagOf, no_tag};
 ghost use Rattle.rng_expected.specs.plain.Leaves.{IsLeafAt};
 ghost use Rattle.rng_expected.specs.plain.TagLeaves.{AreBodiesOf, AreClassesOf, IsBody, IsClass, IsClassOf};
 ghost use Rattle.rng_expected.specs.views.Next.{tag_of};
@@ -64,9 +64,27 @@ pub fn expected_tag<'a>(
         (map (λ n. tree_of context.now.grammar.now table.now n.0) alternatives.now) (name_of name.now) (tag_of tag)) }
 {
     let bodies = expected_bodies(context, table, alternatives, name)?;
-    let found = leaves(context.alloc, table, Standing::InTag, bodies.as_slice())?;
-    let attributes = classes_of(context, table, found.as_slice())?;
-    let required = needed_of(context, table, bodies.as_slice(), attributes.as_slice())?;
+    let tag = tag_of_bodies(context.alloc, context.grammar, table, bodies.as_slice())?;
+    Ok(tag)
+}
+
+/// Returns what the tag of an element may have, by the alternatives for what its body takes.
+///
+/// RELAX NG Specification, sections 6.2.7 and 6.2.8. It is stated on the patterns: an attribute counts wherever it is in one
+/// of them, and a name is needed if each of them needs it. Fails only when out of memory. Costs what `expected_tag` costs.
+pub fn tag_of_bodies<'a>(
+    alloc: Global,
+    grammar: &'a SimpleGrammar,
+    table: &PatternTable,
+    bodies: &[PatternNumber],
+) -> Result<ExpectedTag<'a>, OutOfMemory>
+    requires grammar { IsTable grammar.now }
+    requires bodies { All (λ b. b.0 < length table.now) bodies.now }
+    ensures { IfOk result (λ tag. IsTagOf (map (λ b. tree_of grammar.now table.now b.0) bodies.now) (tag_of tag)) }
+{
+    let found = leaves(alloc, table, Standing::InTag, bodies)?;
+    let attributes = classes_of(alloc, grammar, table, found.as_slice())?;
+    let required = needed_of(alloc, grammar, table, bodies, attributes.as_slice())?;
     Ok(ExpectedTag {
         attributes,
         required,
@@ -148,18 +166,19 @@ fn body_of(
 
 /// Returns the name classes of the leaves, which are attributes.
 fn classes_of<'a>(
-    context: &Context<'a>,
+    alloc: Global,
+    grammar: &'a SimpleGrammar,
     table: &PatternTable,
     attributes: &[PatternNumber],
 ) -> Result<Vec<&'a NameClass>, OutOfMemory>
-    requires grammar { IsTable context.now.grammar.now }
+    requires grammar { IsTable grammar.now }
     requires attributes { All (IsLeafAt Standing.InTag table.now) attributes.now }
     ensures paired { IfOk result (λ classes. All (λ c. IsPaired c.now) classes.items) }
-    ensures classes { IfOk result (λ classes. AreClassesOf context.now.grammar.now table.now attributes.now (map (λ c. class_of c.now) classes.items)) }
+    ensures classes { IfOk result (λ classes. AreClassesOf grammar.now table.now attributes.now (map (λ c. class_of c.now) classes.items)) }
 {
-    let mut classes = Vec::new(context.alloc);
+    let mut classes = Vec::new(alloc);
     'attributes: for leaf in attributes {
-        let Some(class) = class_at(context.grammar, table, *leaf) else {
+        let Some(class) = class_at(grammar, table, *leaf) else {
             continue;
         };
         classes.push(class)?;

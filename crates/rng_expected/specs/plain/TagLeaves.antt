@@ -1,6 +1,6 @@
 -- What the tag of an element may have, as it is found leaf by leaf.
 use Rattle.std.specs.Prelude.{◌≡◌, ◌↔◌, ◌⊎◌, ℕ, ◌<◌, List, length, get_or, All, Contains, Bool, true, false, Option, Some, None}
-use Rattle.rng_model.specs.names.Names.{Name, NameClass, name_is}
+use Rattle.rng_model.specs.names.Names.{In, Name, NameClass, name_is}
 use Rattle.rng_model.specs.matching.GrammarMatching.{reading_of}
 use Rattle.rng_model.specs.simple.Table.{Table}
 use Rattle.rng_model.specs.simple.Tree.{Simple, s_leaf, s_attribute}
@@ -24,6 +24,19 @@ abbrev pub IsClassOf : Simple ℕ → Option NameClass → Type 0
 IsClassOf p None = (c : NameClass) → HasClass c p → HoldsNone c
 IsClassOf p (Some c) = HasClass c p
 
+-- what is told for leaves, given what a leaf is, and of what a number tells
+module _ (ns : List Node) {A : Type 0} (Is : PatternNumber → A → Type 0) (Tells : A → PatternNumber → Type 0) where
+  -- for one leaf, if it is such a leaf
+  abbrev pub IsTold : PatternNumber → Option PatternNumber → Type 0
+  IsTold n None = (k : A) → ¬ (Is n k)
+  IsTold n (Some b) = (b.0 < length ns) × ((k : A) × Is n k × Tells k b)
+
+  -- for several
+  pub record AreTold (found told : List PatternNumber) : Type 0 where
+    pub inside : All (λ b. b.0 < length ns) told
+    pub each : (b : PatternNumber) → Contains told b → (n : PatternNumber) × (k : A) × Contains found n × Is n k × Tells k b
+    pub all : (n : PatternNumber) (k : A) → Contains found n → Is n k → (b : PatternNumber) × Contains told b × Tells k b
+
 module _ (t : Table) (ns : List Node) where
   -- the leaf is this element, which may have the name
   abbrev pub IsNamed : Name → PatternNumber → ℕ → Type 0
@@ -35,14 +48,27 @@ module _ (t : Table) (ns : List Node) where
 
   -- the body of a leaf, if it is an element that may have the name
   abbrev pub IsBody : Name → PatternNumber → Option PatternNumber → Type 0
-  IsBody q n None = (k : ℕ) → ¬ (IsNamed q n k)
-  IsBody q n (Some b) = (b.0 < length ns) × ((k : ℕ) × IsNamed q n k × IsBodyLike k b)
+  IsBody q = IsTold ns (IsNamed q) IsBodyLike
 
   -- the bodies of leaves
-  pub record AreBodiesOf (q : Name) (found bodies : List PatternNumber) : Type 0 where
-    pub inside : All (λ b. b.0 < length ns) bodies
-    pub each : (b : PatternNumber) → Contains bodies b → (n : PatternNumber) × (k : ℕ) × Contains found n × IsNamed q n k × IsBodyLike k b
-    pub all : (n : PatternNumber) (k : ℕ) → Contains found n → IsNamed q n k → (b : PatternNumber) × Contains bodies b × IsBodyLike k b
+  abbrev pub AreBodiesOf : Name → List PatternNumber → List PatternNumber → Type 0
+  AreBodiesOf q = AreTold ns (IsNamed q) IsBodyLike
+
+  -- the leaf is an attribute with this content, which may have the name
+  abbrev pub HasContent : Name → PatternNumber → Simple ℕ → Type 0
+  HasContent q n content = (c : NameClass) × (tree_of t ns n.0 ≡ s_attribute c content) × In c q
+
+  -- the pattern takes what the content takes
+  abbrev pub IsContentLike : Simple ℕ → PatternNumber → Type 0
+  IsContentLike content b = Same (reading_of t) (tree_of t ns b.0) content
+
+  -- the content of a leaf, if it is an attribute that may have the name
+  abbrev pub IsContentAt : Name → PatternNumber → Option PatternNumber → Type 0
+  IsContentAt q = IsTold ns (HasContent q) IsContentLike
+
+  -- the contents of leaves
+  abbrev pub AreContentsOf : Name → List PatternNumber → List PatternNumber → Type 0
+  AreContentsOf q = AreTold ns (HasContent q) IsContentLike
 
   -- the leaf is an attribute with this name class
   abbrev pub IsOfClass : NameClass → PatternNumber → Type 0

@@ -9,7 +9,7 @@ use Rattle.rng_expected.proofs.needs.is_needed.Goals as goal
 
 pub bodies-preserved : goal.bodies-preserved
 bodies-preserved c =
-    let t = c.args.context.now.grammar.now in
+    let t = c.args.grammar.now in
     let n = name_of c.args.name.now in
     let tests = c.in_ok-tests.tests.items in
     let k = (get_or c.args.bodies.now c.bodies.body-index (record { 0 = 0 })).0 in
@@ -22,7 +22,7 @@ bodies-preserved c =
 
 pub returns : goal.returns
 returns c = (
-  λ e. all_of_first (λ (b : PatternNumber). Needs (name_of c.args.name.now) (tree_of c.args.context.now.grammar.now c.args.table.now b.0)) c.args.bodies.now
+  λ e. all_of_first (λ (b : PatternNumber). Needs (name_of c.args.name.now) (tree_of c.args.grammar.now c.args.table.now b.0)) c.args.bodies.now
       c.bodies.body-index c.bodies-test.false c.bodies.invariant,
   λ a. refl,
 )

@@ -4,4 +4,4 @@ use Rattle.rng_expected.specs.plain.TagLeaves.{AllNeed}
 use Rattle.rng_expected.proofs.needs.is_needed.Given as goal
 
 abbrev pub invariant-bodies : goal.invariant-bodies
-invariant-bodies l = AllNeed l.context.grammar.now l.table (name_of l.name) (take l.body-index l.bodies)
+invariant-bodies l = AllNeed l.grammar l.table (name_of l.name) (take l.body-index l.bodies)

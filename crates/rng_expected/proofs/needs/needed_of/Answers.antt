@@ -10,12 +10,12 @@ use Rattle.rng_expected.proofs.needs.needed_of.Goals.{then-branch+in_ok-push, el
 pub classes-preserved-in_default : goal.classes-preserved-in_default
 classes-preserved-in_default c =
     let d = c.class-item.result in
-    not_needed c.args.context.now.grammar.now c.args.table.now c.args.bodies.now _ _ (class_of d.now)
+    not_needed c.args.grammar.now c.args.table.now c.args.bodies.now _ _ (class_of d.now)
     (class_more c.args.classes.now c.classes.class-index d c.classes-test.true c.class-item.is) _ c.classes.invariant (λ n e all. c.in_default.ensures.none n e)
 
 pub classes-preserved : goal.classes-preserved
 classes-preserved c =
-    let t = c.args.context.now.grammar.now in
+    let t = c.args.grammar.now in
     let ns = c.args.table.now in
     let bodies = c.args.bodies.now in
     let d = c.class-item.result in
@@ -36,5 +36,5 @@ classes-preserved c =
 
 pub returns : goal.returns
 returns c = subst
-    (λ cs. AreNeeded c.args.context.now.grammar.now c.args.table.now c.args.bodies.now (map (λ c. class_of c.now) cs) (map (λ n. name_of n.now) c.classes.needed.items))
+    (λ cs. AreNeeded c.args.grammar.now c.args.table.now c.args.bodies.now (map (λ c. class_of c.now) cs) (map (λ n. name_of n.now) c.classes.needed.items))
     (take_all c.classes.class-index c.args.classes.now c.classes-test.false) c.classes.invariant

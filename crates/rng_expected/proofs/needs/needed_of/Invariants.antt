@@ -5,4 +5,4 @@ use Rattle.rng_expected.proofs.needs.needed_of.Given as goal
 
 abbrev pub invariant-classes : goal.invariant-classes
 invariant-classes l =
-    AreNeeded l.context.grammar.now l.table l.bodies (map (λ c. class_of c.now) (take l.class-index l.classes)) (map (λ n. name_of n.now) l.needed.items)
+    AreNeeded l.grammar l.table l.bodies (map (λ c. class_of c.now) (take l.class-index l.classes)) (map (λ n. name_of n.now) l.needed.items)

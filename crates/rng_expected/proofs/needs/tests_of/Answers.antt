@@ -10,7 +10,7 @@ use Rattle.rng_expected.proofs.needs.tests_of.Goals as goal
 
 pub rows-preserved : goal.rows-preserved
 rows-preserved c =
-    let t = c.args.context.now.grammar.now in
+    let t = c.args.grammar.now in
     let ns = c.args.table.now in
     let n = name_of c.args.name.now in
     let old = c.rows.tests.items in

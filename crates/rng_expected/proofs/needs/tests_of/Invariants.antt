@@ -6,7 +6,7 @@ use Rattle.rng_expected.proofs.needs.tests_of.Given as goal
 abbrev pub invariant-rows : goal.invariant-rows
 invariant-rows l = record {
   within : length l.tests.items ≤ length l.table;
-  tests : AreTests l.context.grammar.now l.table (name_of l.name) l.tests.items;
+  tests : AreTests l.grammar l.table (name_of l.name) l.tests.items;
 }
 
 abbrev pub decreases-rows : goal.decreases-rows

@@ -1,32 +1,16 @@
-use Rattle.rng_model.specs.declared.name.NameClass.{NameClass}
-use Rattle.std.proofs.Common.{All, Bor, List, map, subst, sym}
-use Rattle.rng_model.specs.names.NameViews.{class_of, name_of}
+use Rattle.std.proofs.Common.{List, map, subst}
+use Rattle.rng_deriv_table.specs.views.Trees.{tree_of}
 use Rattle.rng_deriv_table.specs.declared.pattern.PatternNumber.{PatternNumber}
-use Rattle.rng_expected.specs.plain.Leaves.{AreLeaves, IsLeafAt}
-use Rattle.rng_expected.specs.plain.TagLeaves.{AreClassesOf, AreNeeded}
+use Rattle.rng_expected.specs.Tags.{IsTagOf}
 use Rattle.rng_expected.specs.views.Next.{tag_of}
-use Rattle.rng_expected.specs.declared.leaves.Standing.TheVariants as standings
-use Rattle.rng_expected.proofs.TagParts.{is_tag}
 use Rattle.rng_expected.proofs.tags.expected_tag.Goals as goal
-
-pub classes_of-requires-clause-attributes : goal.classes_of-requires-clause-attributes
-classes_of-requires-clause-attributes c =
-    subst (All (IsLeafAt standings.InTag c.args.table.now)) (sym c.as_slice-2.ensures.value) (c.in_ok-found.ensures c.args.context.now.grammar.now).leaves
 
 pub returns : goal.returns
 returns c =
-    let t = c.args.context.now.grammar.now in
-    let ns = c.args.table.now in
-    let q = name_of c.args.name.now in
-    let bodies = c.in_ok-bodies.bodies.items in
-    let Found : List PatternNumber → Type 0 = λ bodies. AreLeaves standings.InTag t ns bodies c.in_ok-found.found.items in
-    let Classes : List PatternNumber → Type 0 = λ found. AreClassesOf t ns found (map (λ c. class_of c.now) c.in_ok-attributes.attributes.items) in
-    let required = map (λ n. name_of n.now) c.in_ok-required.required.items in
-    let Needed : List PatternNumber → Type 0 = λ bodies. AreNeeded t ns bodies (map (λ c. class_of c.now) c.in_ok-attributes.attributes.items) required in
-    let NeededOf : List (Bor NameClass) → Type 0 = λ cs. AreNeeded t ns c.as_slice-3.result.now (map (λ c. class_of c.now) cs) required in
-    is_tag t ns c.args.alternatives.now bodies c.in_ok-found.found.items q
-    (tag_of (record { attributes = c.in_ok-attributes.attributes; required = c.in_ok-required.required }))
-    c.in_ok-bodies.ensures.bodies
-    (subst Found c.as_slice.ensures.value (c.in_ok-found.ensures t))
-    (subst Classes c.as_slice-2.ensures.value c.in_ok-attributes.ensures.classes)
-    (subst Needed c.as_slice-3.ensures.value (subst NeededOf c.as_slice-4.ensures.value c.in_ok-required.ensures))
+    let tree : PatternNumber → _ = λ b. tree_of c.args.context.now.grammar.now c.args.table.now b.0 in
+    let Has : List PatternNumber → Type 0 = λ bodies. IsTagOf (map tree bodies) (tag_of c.in_ok-tag.tag) in
+    record {
+      bodies = map tree c.in_ok-bodies.bodies.items;
+      are = c.in_ok-bodies.ensures.bodies;
+      has = subst Has c.as_slice.ensures.value c.in_ok-tag.ensures;
+    }
