@@ -74,6 +74,18 @@ module _ (Is : Simple ℕ → Simple ℕ → Type 0) (old base new : List (Simpl
     each = each_after;
   }
 
+pub no_pattern : (Is : Simple ℕ → Simple ℕ → Type 0) (ts : List (Simple ℕ)) → AddsEach Is ts ts [] []
+no_pattern Is ts = record { longer = longer_same ts; inside = All-nil (IsInside ts); each = tt }
+
+-- the only pattern of a list
+pub only_one : (Is : Simple ℕ → Simple ℕ → Type 0) (old new : List (Simple ℕ)) (ps all : List PatternNumber) (d n : PatternNumber) → ps ≡ all
+    → length ps ≡ 1 → All (IsInside old) all → Adds (Is (tree_of old (slice_index_or ps 0 d))) old new n → AddsEach Is old new all (n ∷ [])
+only_one Is old new [] all d n same one inside a = absurd (omega (arith, one))
+only_one Is old new (p ∷ []) all d n same one inside a =
+    let i = All-head (IsInside old) p [] (subst (All (IsInside old)) (sym same) inside) in
+    subst (λ ps. AddsEach Is old new ps (n ∷ [])) same (each_more Is old old new [] [] p n (no_pattern Is old) (All-nil (IsInside old)) i a)
+only_one Is old new (p ∷ q ∷ ps) all d n same one inside a = absurd (omega (arith, one))
+
 -- for a loop over the patterns
 pub each_at : (Is : Reading → Simple ℕ → Simple ℕ → Type 0) (g h : Reading) (old base new : List (Simple ℕ)) (ps qs items : List PatternNumber) (i : ℕ)
     (d n : PatternNumber) → g ≡ h → AddsEach (Is h) old base (take i ps) qs → All (IsInside old) ps → i < length ps →

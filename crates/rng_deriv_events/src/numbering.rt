@@ -1,5 +1,5 @@
 // Levels of alternatives, by number.
-ghost use Rattle.std.specs.Prelude.{◌≡◌, ◌<◌, [], All, IfOk, IfSome, OnOk, Some, length, map, true};
+ghost use Rattle.std.specs.Prelude.{◌≡◌, ◌<◌, ◌∷◌, [], All, IfOk, IfSome, OnOk, Some, length, map, true};
 ghost use Rattle.std.specs.List.{list_all, list_any};
 ghost use Rattle.rng_model.specs.documents.EventViews.{attribute_of};
 ghost use Rattle.rng_deriv_laws.specs.plain.Derivatives.{has_data, is_not_allowed};
@@ -104,6 +104,26 @@ pub fn level_of<D: Derivatives>(
     Ok(number)
 }
 
+/// Returns the number of the level of one alternative. Adds it if it is not there.
+#[inline(always)]
+fn level_of_one<D: Derivatives>(
+    derivatives: &D,
+    alloc: Global,
+    table: &mut LevelTable,
+    number: PatternNumber,
+) -> Result<LevelNumber, OutOfMemory>
+    requires inside { IsInside (D.trees derivatives.now) number }
+    requires kept { HoldsBy AreKept (D.basis derivatives.now) (D.trees derivatives.now) table.old }
+    ensures adds { OnOk result (HoldsBy (AddsLevels table.old) (D.basis derivatives.now) (D.trees derivatives.now) table.new) }
+    ensures level { IfOk result (λ n. IsLevelOf table.new n (number ∷ [])) }
+{
+    if let Some(level) = table.find(&[number]) {
+        return Ok(level);
+    }
+    let numbers = SmallVec::from_slice(alloc, &[number])?;
+    level_of(derivatives, alloc, table, numbers)
+}
+
 /// Returns the level of what is left of each alternative of a level after the attributes of a tag.
 pub fn level_after_tag<D: Derivatives>(
     derivatives: &mut D,
@@ -118,6 +138,10 @@ pub fn level_after_tag<D: Derivatives>(
     ensures after { IfOk result (AddsAfter (IsAfterTag (reading_by (D.basis derivatives.old)) (map attribute_of attrs.now)) (D.trees derivatives.old)
         (D.trees derivatives.new) (numbers_in (levels_in table.old) level.0) table.new) }
 {
+    if let [body] = table.numbers(level) {
+        let left = derivatives.after_tag(alloc, *body, attrs)?;
+        return level_of_one(derivatives, alloc, table, left);
+    }
     let numbers = entered(derivatives, alloc, table.numbers(level), attrs)?;
     let after = level_of(derivatives, alloc, table, numbers)?;
     Ok(after)
@@ -137,6 +161,10 @@ fn level_after_string<D: Derivatives>(
     ensures after { IfOk result (AddsAfter (IsAfterText (reading_by (D.basis derivatives.old)) text.now) (D.trees derivatives.old)
         (D.trees derivatives.new) (numbers_in (levels_in table.old) level.0) table.new) }
 {
+    if let [pattern] = table.numbers(level) {
+        let left = derivatives.after_text(alloc, *pattern, text)?;
+        return level_of_one(derivatives, alloc, table, left);
+    }
     let numbers = after_string(derivatives, alloc, table.numbers(level), text)?;
     let after = level_of(derivatives, alloc, table, numbers)?;
     Ok(after)
