@@ -1,6 +1,5 @@
 // Names and attributes as C passes them.
-ghost use Rattle.std.specs.Prelude.{◌≡◌, All, IfErr, IfOk, IsUtf8, IsErrOf, OnOk, map, true};
-ghost use Rattle.std.specs.Str.{IsAscii};
+ghost use Rattle.std.specs.Prelude.{◌≡◌, All, IfErr, IfOk, IsUtf8, IsErrOf, OnOk, false, map, true};
 ghost use Rattle.element_events.specs.views.Told.{attribute_told, name_told};
 ghost use Rattle.rncv_c_values.specs.views.Attributes.{IsTextAttribute, IsTextName, attribute_of, name_of};
 
@@ -24,17 +23,20 @@ pub struct AttributeBytes<'a> {
     pub value: &'a [u8],
 }
 
-/// Returns whether all bytes are ASCII. It looks at all of them without an early exit, so many can be looked at together. It
-/// is a call, so that `text_of` is small enough to be inlined.
+/// Returns whether the bytes are UTF-8. Bytes that are all ASCII cost less than others. It is a call, so that those who ask are
+/// small enough to be inlined.
 #[inline(never)]
-fn are_ascii(bytes: &[u8]) -> bool
-    ensures { result ≡ true → IsAscii bytes.now }
+fn is_text(bytes: &[u8]) -> bool
+    ensures text { result ≡ true → IsUtf8 bytes.now }
+    ensures none { result ≡ false → ¬ (IsUtf8 bytes.now) }
 {
-    let mut all = 0;
-    'bytes: for byte in bytes.iter() {
-        all |= *byte;
+    if bytes.is_ascii() {
+        return true;
     }
-    all < 0x80
+    match str::from_utf8(bytes) {
+        Ok(_) => true,
+        Err(_) => false,
+    }
 }
 
 /// Returns the text of these bytes. Fails with `NotWellFormed` exactly if they are not UTF-8. Bytes that are all ASCII cost
@@ -45,13 +47,33 @@ pub fn text_of(bytes: &[u8]) -> Result<&str, EventFault>
     ensures utf8 { OnOk result (IsUtf8 bytes.now) }
     ensures fault { IfErr result (λ fault. (fault ≡ EventFault.NotWellFormed) × ¬ (IsUtf8 bytes.now)) }
 {
-    if are_ascii(bytes) {
-        let text = unsafe { str::from_utf8_unchecked(bytes) };
-        return Ok(text);
+    if !is_text(bytes) {
+        return Err(EventFault::NotWellFormed);
     }
-    match str::from_utf8(bytes) {
-        Ok(text) => Ok(text),
-        Err(_) => Err(EventFault::NotWellFormed),
+    let text = unsafe { str::from_utf8_unchecked(bytes) };
+    Ok(text)
+}
+
+/// Returns whether both parts of the name are UTF-8. The namespace is mostly empty, and then it costs nothing.
+fn is_text_name(name: NameBytes<'_>) -> bool
+    ensures text { result ≡ true → IsTextName (name_of name.entry) }
+    ensures none { result ≡ false → ¬ (IsTextName (name_of name.entry)) }
+{
+    if !name.uri.is_empty() && !is_text(name.uri) {
+        return false;
+    }
+    is_text(name.local)
+}
+
+/// Returns the name of parts that are UTF-8. Costs nothing.
+#[inline(always)]
+fn told_name(name: NameBytes<'_>) -> ExpandedName<'_>
+    requires { IsTextName (name_of name) }
+    ensures { name_told result ≡ name_of name.entry }
+{
+    ExpandedName {
+        namespace: unsafe { str::from_utf8_unchecked(name.uri) },
+        local: unsafe { str::from_utf8_unchecked(name.local) },
     }
 }
 
@@ -62,26 +84,35 @@ pub fn text_name(name: NameBytes<'_>) -> Result<ExpandedName<'_>, EventFault>
     ensures texts { OnOk result (IsTextName (name_of name.entry)) }
     ensures fault { IfErr result (λ fault. (fault ≡ EventFault.NotWellFormed) × ¬ (IsTextName (name_of name.entry))) }
 {
-    match (text_of(name.uri), text_of(name.local)) {
-        (Ok(namespace), Ok(local)) => Ok(ExpandedName { namespace, local }),
-        _ => Err(EventFault::NotWellFormed),
+    if !is_text_name(name) {
+        return Err(EventFault::NotWellFormed);
     }
+    Ok(told_name(name))
 }
 
-/// Returns the attribute of these bytes. Fails with `NotWellFormed` exactly if a part is not UTF-8.
-fn text_attribute(attribute: AttributeBytes<'_>) -> Result<Attribute<'_>, EventFault>
-    ensures attribute { IfOk result (λ told. attribute_told told ≡ attribute_of attribute.entry) }
-    ensures texts { OnOk result (IsTextAttribute attribute.entry) }
-    ensures fault { IfErr result (λ fault. (fault ≡ EventFault.NotWellFormed) × ¬ (IsTextAttribute attribute.entry)) }
+/// Returns whether all parts of the attribute are UTF-8.
+fn is_text_attribute(attribute: AttributeBytes<'_>) -> bool
+    ensures text { result ≡ true → IsTextAttribute attribute.entry }
+    ensures none { result ≡ false → ¬ (IsTextAttribute attribute.entry) }
 {
-    match (text_name(attribute.name), text_of(attribute.value)) {
-        (Ok(name), Ok(value)) => Ok(Attribute { name, value }),
-        _ => Err(EventFault::NotWellFormed),
+    is_text_name(attribute.name) && is_text(attribute.value)
+}
+
+/// Returns the attribute of parts that are UTF-8. Costs nothing.
+#[inline(always)]
+fn told_attribute(attribute: AttributeBytes<'_>) -> Attribute<'_>
+    requires { IsTextAttribute attribute }
+    ensures { attribute_told result ≡ attribute_of attribute.entry }
+{
+    Attribute {
+        name: told_name(attribute.name),
+        value: unsafe { str::from_utf8_unchecked(attribute.value) },
     }
 }
 
 /// Returns the attributes of these bytes. Fails with `NotWellFormed` only if a part is not UTF-8, and with `Memory`.
-pub fn text_attributes<'a>(
+#[inline(never)]
+fn some_attributes<'a>(
     alloc: Global,
     attributes: &[AttributeBytes<'a>],
 ) -> Result<Vec<Attribute<'a>>, EventFault>
@@ -91,10 +122,27 @@ pub fn text_attributes<'a>(
 {
     let mut told = Vec::with_capacity(alloc, attributes.len())?;
     for attribute in attributes {
-        match text_attribute(*attribute) {
-            Ok(attribute) => told.push(attribute)?,
-            Err(fault) => return Err(fault),
+        if !is_text_attribute(*attribute) {
+            return Err(EventFault::NotWellFormed);
         }
+        told.push(told_attribute(*attribute))?;
     }
     Ok(told)
+}
+
+/// Returns the attributes of these bytes. Fails with `NotWellFormed` only if a part is not UTF-8, and with `Memory`. Costs
+/// nothing if there are none.
+#[inline(always)]
+pub fn text_attributes<'a>(
+    alloc: Global,
+    attributes: &[AttributeBytes<'a>],
+) -> Result<Vec<Attribute<'a>>, EventFault>
+    ensures attributes { IfOk result (λ told. map attribute_told told.items ≡ map attribute_of attributes.now) }
+    ensures texts { OnOk result (All IsTextAttribute attributes.now) }
+    ensures fault { IsErrOf result EventFault.NotWellFormed → ¬ (All IsTextAttribute attributes.now) }
+{
+    if attributes.is_empty() {
+        return Ok(Vec::new(alloc));
+    }
+    some_attributes(alloc, attributes)
 }

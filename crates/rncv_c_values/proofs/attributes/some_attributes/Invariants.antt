@@ -1,7 +1,7 @@
 use Rattle.std.proofs.Common.{◌≡◌, All, map, take}
 use Rattle.element_events.specs.views.Told.{attribute_told}
 use Rattle.rncv_c_values.specs.views.Attributes.{IsTextAttribute, attribute_of}
-use Rattle.rncv_c_values.proofs.attributes.text_attributes.Given as goal
+use Rattle.rncv_c_values.proofs.attributes.some_attributes.Given as goal
 
 -- the attributes so far are texts, and are copied
 abbrev pub invariant-loop-attribute : goal.invariant-loop-attribute
