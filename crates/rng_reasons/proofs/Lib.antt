@@ -4,3 +4,4 @@ mod LeftPatterns
 mod TagReasons
 mod StayingFaults
 mod ToldReasons
+mod FoundOptions

@@ -1,5 +1,5 @@
 -- Why a tag leaves nothing stays so when patterns are added to the table.
-use Rattle.std.proofs.Common.{◌≡◌, ◌↔◌, ℕ, ◌+◌, ◌<◌, List, [], ◌∷◌, ◌++◌, All, Bool, true, false, arith, length, map, take, Option, Some, None, subst, sym, refl}
+use Rattle.std.proofs.Common.{◌≡◌, ◌↔◌, ℕ, ◌<◌, List, [], ◌∷◌, ◌++◌, All, Bool, true, false, arith, length, map, take, Option, Some, None, subst, sym, refl}
 use Rattle.std.proofs.Common.{ap₂, inl, inr}
 use Rattle.std.proofs.lemmas.List.Elements.{All-head, All-tail}
 use Rattle.rng_model.specs.names.Names.{Name}

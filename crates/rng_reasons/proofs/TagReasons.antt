@@ -23,10 +23,10 @@ one_of_numbers g of ms xs ns = (
 
 -- a fault depends only on what is taken
 module _ (A B : List Attribute → List Item → Type 0) (same : (xs : List Attribute) (ns : List Item) → A xs ns ↔ B xs ns) (g : Reading) (trees : List (Simple ℕ)) where
-  none_either : (xs : List Attribute) → NoneTakesThese A xs → NoneTakesThese B xs
+  pub none_either : (xs : List Attribute) → NoneTakesThese A xs → NoneTakesThese B xs
   none_either xs none zs ns d taken = none zs ns d ((same (xs ++ zs) ns).1 taken)
 
-  left_either : (xs : List Attribute) (n : PatternNumber) → IsLeftAfter A g trees xs n → IsLeftAfter B g trees xs n
+  pub left_either : (xs : List Attribute) (n : PatternNumber) → IsLeftAfter A g trees xs n → IsLeftAfter B g trees xs n
   left_either xs n l = record {
     inside = l.inside;
     allowed = l.allowed;

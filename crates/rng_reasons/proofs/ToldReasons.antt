@@ -1,17 +1,15 @@
 -- Why a start or an end leaves nothing, case by case.
 use Rattle.std.proofs.Math.Dec.{eqb-suc-zero}
 use Rattle.rng_model.proofs.Truths.{no_truth}
-use Rattle.std.proofs.Common.{◌≡◌, ◌∙◌, ℕ, List, [], ◌∷◌, Bool, true, false, Option, Some, None, is_none, Contains, arith, ap, inl, inr, length, map, ◌==◌, ◌<◌, refl, subst, sym}
+use Rattle.std.proofs.Common.{◌≡◌, ◌∙◌, ℕ, List, [], ◌∷◌, Bool, true, false, Option, Some, None, is_none, Contains, arith, inl, inr, length, map, ◌==◌, ◌<◌, refl, subst, sym}
 use Rattle.rng_model.specs.names.Names.{Name, NameClass}
 use Rattle.rng_model.specs.simple.Tree.{Simple}
 use Rattle.rng_model.specs.matching.Document.{Attribute}
 use Rattle.rng_model.specs.matching.GrammarMatching.{Reading}
 use Rattle.rng_expected.specs.Expectations.{IsExpected, Next}
-use Rattle.rng_reasons.specs.Reasons.{Alternatives, IsEndReason, IsStartReason, IsTextFaulty, MayBeElement, MayBeText}
+use Rattle.rng_reasons.specs.Reasons.{Alternatives, IsStartReason, IsTextFaulty, MayBeElement, MayBeText}
 use Rattle.rng_reasons.specs.TagReasons.{IsTagFaultOf}
 use Rattle.rng_reasons.specs.views.Left.{reason_of}
-use Rattle.rng_reasons.specs.declared.reasons.Reason.{Reason}
-use Rattle.rng_reasons.specs.declared.reasons.Reason.TheVariants as reasons
 use Rattle.rng_reasons.specs.declared.tag_faults.TagFault.{TagFault}
 
 -- ---- what is expected

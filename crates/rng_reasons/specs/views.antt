@@ -1,2 +1,3 @@
 -- What the values of the code are.
 pub mod Left
+pub mod Options

@@ -3,16 +3,19 @@
 //! `start_reason` and `end_reason` take the alternatives for what remains, as numbered patterns. They tell whether the name of
 //! the tag is at fault, an attribute, the text before the tag, or that something is missing. `tag_fault` takes the bodies of
 //! the elements that the name of a tag may begin, and its attributes in their order. It tells the first attribute that
-//! nothing takes which is left by those before it, and whether only its value is at fault. The answers are stated by the
-//! rules of matching (RELAX NG Specification, sections 6.2.7 and 6.2.8), for patterns that obey section 7.
+//! nothing takes which is left by those before it, and whether only its value is at fault. `tag_options` tells what may come
+//! after some attributes of a tag, as in place of the one at fault. The answers are stated by the rules of matching (RELAX NG
+//! Specification, sections 6.2.7 and 6.2.8), for patterns that obey section 7.
 #![tactic(auto)]
 
 ghost use Rattle.rng_reasons.specs.AllowedPatterns.{AllowedTakeSome, BareTakeNoAttribute};
 
 mod named_attributes;
+mod options;
 mod reasons;
 mod tag_faults;
 
+pub use options::{TagBeginning, TagOptions, tag_options};
 pub use reasons::{LeftHere, Reason, StartTag, end_reason, start_reason};
 pub use tag_faults::{TagFault, tag_fault};
 

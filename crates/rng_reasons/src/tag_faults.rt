@@ -80,7 +80,7 @@ pub fn tag_fault(
 }
 
 /// Returns whether the pattern is not notAllowed. Then notAllowed occurs nowhere in it. Allocates nothing.
-fn is_left(table: &PatternTable, number: PatternNumber) -> bool
+pub(crate) fn is_left(table: &PatternTable, number: PatternNumber) -> bool
     requires { number.0 < length table.now }
     ensures left { result ≡ true → (t : Table) → HasNoNotAllowed (tree_of t table.now number.0) }
     ensures nothing { result ≡ false → (t : Table) → tree_of t table.now number.0 ≡ s_not_allowed }

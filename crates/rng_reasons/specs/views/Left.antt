@@ -1,5 +1,5 @@
 -- What is left, by the numbers of a table.
-use Rattle.std.specs.Prelude.{ℕ, ◌<◌, List, map, length, All, Bool, true, false, Option, Some, None}
+use Rattle.std.specs.Prelude.{◌<◌, List, map, length, All, Bool, true, false, Option, Some, None}
 use Rattle.rng_model.specs.simple.Table.{Table}
 use Rattle.rng_deriv_table.specs.views.Node.{Node}
 use Rattle.rng_deriv_table.specs.views.Trees.{tree_of}
