@@ -33,7 +33,7 @@ struct decoding {
     struct fault fault;   /* why nothing comes after the text that was given. Its place is the end of that text */
 };
 
-#define NO_DECODING {false, 0, NO_BYTES, false, FAMILY_BYTES, {(iconv_t)-1, NO_BYTES, false}, false, NO_BYTES, {0}, 0, false, NO_FAULT}
+#define NO_DECODING {false, 0, NO_BYTES, false, FAMILY_BYTES, NO_TRANSCODER, false, NO_BYTES, {0}, 0, false, NO_FAULT}
 
 /* Adds the characters of the bytes to the text. Once there is a fault, no more are added. */
 void decoding_take(struct decoding *decoding, const char *bytes, size_t length, struct bytes *text);

@@ -39,8 +39,18 @@ static bool keeps_ascii(struct transcoder *transcoder) {
     return true;
 }
 
+/* Whether the name is one of Shift_JIS. Java and browsers read its bytes of `\` and `~` as these, so documents mean them. Tables of JIS X 0201 do not. */
+static bool is_shift_jis(const char *encoding) {
+    static const char *const names[] = {"shift_jis", "shift-jis", "sjis", "ms_kanji", "csshiftjis"};
+    bool is_one = false;
+    for (size_t at = 0; at < sizeof names / sizeof *names && !is_one; at++) {
+        is_one = strcasecmp(encoding, names[at]) == 0;
+    }
+    return is_one;
+}
+
 bool transcoder_open_any(struct transcoder *transcoder, const char *encoding) {
-    *transcoder = (struct transcoder){(iconv_t)-1, NO_BYTES, false};
+    *transcoder = (struct transcoder)NO_TRANSCODER;
     /* these two are not names of encodings: they depend on the machine */
     if (strcasecmp(encoding, "char") == 0 || strcasecmp(encoding, "wchar_t") == 0) {
         return false;
@@ -57,6 +67,7 @@ bool transcoder_open(struct transcoder *transcoder, const char *encoding) {
         transcoder_close(transcoder);
         return false;
     }
+    transcoder->is_shift_jis = is_shift_jis(encoding);
     return true;
 }
 
@@ -73,18 +84,42 @@ static size_t some(struct transcoder *transcoder, char **from, size_t *left, str
     return answer;
 }
 
-/* Whether the text has, from `begin` on, a character that replaces `\` or `~` in some tables and not in others. */
-static bool is_doubtful(const struct transcoder *transcoder, const struct bytes *text, size_t begin) {
+/* The length of a yen sign or an overline at the start of the text, which replace `\` and `~` in some tables and not in others; 0: it is another character. */
+static size_t replacing(struct span text) {
+    if (text.length >= 2 && memcmp(text.data, "\xC2\xA5", 2) == 0) {
+        return 2;
+    }
+    return text.length >= 3 && memcmp(text.data, "\xE2\x80\xBE", 3) == 0 ? 3 : 0;
+}
+
+/* Puts `\` and `~` in their places, from `begin` on. In Shift_JIS nothing else gives these two characters. */
+static void put_back(struct bytes *text, size_t begin) {
+    size_t to = begin;
+    for (size_t at = begin; at < text->length; to++) {
+        size_t length = replacing((struct span){text->data + at, text->length - at});
+        text->data[to] = length == 0 ? text->data[at] : length == 2 ? '\\' : '~';
+        at += length == 0 ? 1 : length;
+    }
+    text->length = to;
+}
+
+/* What is to be said of the text from `begin` on. */
+static enum decoded decoded_from(const struct transcoder *transcoder, struct bytes *text, size_t begin) {
+    bool is_doubtful = false;
+    if (text->failed) {
+        return DECODED_NO_MEMORY;
+    }
     if (!transcoder->has_doubts) {
-        return false;
+        return DECODED;
     }
-    for (size_t at = begin; at + 1 < text->length; at++) {
-        const char *here = text->data + at;
-        if (memcmp(here, "\xC2\xA5", 2) == 0 || (at + 2 < text->length && memcmp(here, "\xE2\x80\xBE", 3) == 0)) {
-            return true;
-        }
+    if (transcoder->is_shift_jis) {
+        put_back(text, begin);
+        return DECODED;
     }
-    return false;
+    for (size_t at = begin; at < text->length && !is_doubtful; at++) {
+        is_doubtful = replacing((struct span){text->data + at, text->length - at}) > 0;
+    }
+    return is_doubtful ? DECODED_DOUBTFUL : DECODED;
 }
 
 enum decoded transcoder_add(struct transcoder *transcoder, const char *bytes, size_t length, struct bytes *text) {
@@ -114,7 +149,7 @@ enum decoded transcoder_add(struct transcoder *transcoder, const char *bytes, si
         left--;
     }
     bytes_cut_front(&transcoder->waiting, transcoder->waiting.length - left);
-    return text->failed ? DECODED_NO_MEMORY : is_doubtful(transcoder, text, begin) ? DECODED_DOUBTFUL : DECODED;
+    return decoded_from(transcoder, text, begin);
 }
 
 enum decoded transcoder_end(struct transcoder *transcoder, struct bytes *text) {
@@ -126,7 +161,7 @@ enum decoded transcoder_end(struct transcoder *transcoder, struct bytes *text) {
     if (transcoder->waiting.length > 0 || answer != 0) {
         bytes_add_byte(text, '\xFF');
     }
-    return text->failed ? DECODED_NO_MEMORY : is_doubtful(transcoder, text, begin) ? DECODED_DOUBTFUL : DECODED;
+    return decoded_from(transcoder, text, begin);
 }
 
 void transcoder_close(struct transcoder *transcoder) {

@@ -15,8 +15,11 @@ enum decoded {
 struct transcoder {
     iconv_t descriptor;
     struct bytes waiting; /* the first bytes of a character whose other bytes have not come yet */
-    bool has_doubts;      /* whether the byte of `\` or of `~` is another character in this table, as in that of Shift_JIS */
+    bool has_doubts;      /* whether the byte of `\` or of `~` is another character in this table */
+    bool is_shift_jis;    /* it is, and is read as `\` or `~` */
 };
+
+#define NO_TRANSCODER {(iconv_t)-1, NO_BYTES, false, false}
 
 /* Opens the transcoder. False: the encoding is not served. It is served if iconv knows it and ASCII is itself in it, so that the declaration was read
  * as it is meant. The bytes of `\` and `~` may be other characters. */

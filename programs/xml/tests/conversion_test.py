@@ -157,11 +157,14 @@ class Encodings(Converted):
                 self.assertEqual((row, column, what), (2, 6, "malformed XML: bytes that are no character of the encoding"))
 
     def test_bytes_that_are_read_in_two_ways(self):
-        declared = b'<?xml version="1.0" encoding="Shift_JIS"?><a>'
+        declared = '<?xml version="1.0" encoding="{}"?><a>'
         for text in (b"\\", b"~", b"x" * 100_000 + b"\\"):
-            found = self.fault(declared + text + b"</a>")[2]
+            found = self.fault(declared.format("SHIFT_JISX0213").encode() + text + b"</a>")[2]
             self.assertEqual(found, "a byte that programs read in different ways in this encoding: outside the profile")
-        self.assertEqual(self.pyx(declared + b"\x83\x5c</a>"), "(a\n-\u30bd\n)a\n".encode())
+        for name in ("Shift_JIS", "shift-jis", "SJIS", "MS_Kanji", "csShiftJIS"):
+            given, wanted = b"\x83\x5c\\~\xb1" * 20_000, "\u30bd\\\\~\uff71" * 20_000
+            out = self.pyx(declared.format(name).encode() + given + b"</a>").decode()
+            self.assertEqual("".join(line[1:] for line in out.split("\n") if line[:1] == "-"), wanted, name)
 
     def test_a_mark_and_a_declaration_that_differ(self):
         for encoding in ("ISO-8859-1", "EUC-JP", "US-ASCII"):
