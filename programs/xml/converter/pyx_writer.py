@@ -62,7 +62,9 @@ class PyxWriter:
         raise OutsideProfile(*place, f"{what}: outside the profile")
 
     def declaration(self, version, encoding, standalone):
-        """Takes the XML declaration. In a document that says that it is standalone, expat drops nothing."""
+        """Takes the XML declaration. In a document that says that it is standalone, expat drops nothing. It reads XML 1.1 as XML 1.0."""
+        if version == "1.1":
+            self.refuse(self.here(), "XML 1.1")
         self.declarations.standalone = standalone == 1
         self.feed.declared(encoding)
 

@@ -180,6 +180,10 @@ class UnreadDtd(unittest.TestCase):
         with self.assertRaisesRegex(pyx_writer.Malformed, "undefined entity"):
             pyx(f'{declared}<!DOCTYPE a SYSTEM "d"><a x="&ext;"/>'.encode())
 
+    def test_the_new_version(self):
+        with self.assertRaisesRegex(pyx_writer.OutsideProfile, "XML 1.1: outside the profile"):
+            pyx(b'<?xml version="1.1"?><a/>')
+
     def test_what_is_not_loaded_is_reported(self):
         for subset, notes in (('SYSTEM "d"', 1), ('[<!ENTITY % p SYSTEM "e">%p;]', 1), ('SYSTEM "d" [<!ENTITY % p SYSTEM "e">%p;]', 2), ("[%p;]", 1),
                               ('[<!ENTITY % p SYSTEM "e">]', 0), ('[<!ENTITY % p "">%p;]', 0)):

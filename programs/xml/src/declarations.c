@@ -19,6 +19,8 @@ enum {
     MOST_GROWTH = 100      /* how many times as long as the document their text may be, above that */
 };
 
+const char control_character[] = "a control character by a reference, which XML 1.1 has: outside the profile";
+
 static const char *plain(const xmlChar *text) {
     return text == NULL ? "" : (const char *)text;
 }
@@ -186,10 +188,21 @@ static void check_text(struct declarations *declarations, struct span text, bool
     }
 }
 
-void declarations_entity(struct declarations *declarations, bool is_parameter, const xmlChar *text) {
+/* Hides the references to control characters in the text of a parameter entity. */
+static void hide(struct declarations *declarations, char *text, size_t length) {
+    struct feed *feed = declarations->feed;
+    if (feed->decoding.is_1_1 && hide_controls(text, length)) {
+        feed->prolog.has_hidden = true;
+    }
+}
+
+void declarations_entity(struct declarations *declarations, bool is_parameter, xmlChar *text) {
     check_behind(declarations);
     if (text == NULL) {
         return;
+    }
+    if (is_parameter) {
+        hide(declarations, (char *)text, strlen((const char *)text));
     }
     check_text(declarations, (struct span){(const char *)text, strlen((const char *)text)}, is_parameter);
     bool is_external = declarations->feed->is_away || declarations->feed->parser->input->filename != NULL;
@@ -316,12 +329,16 @@ static struct twin *load(struct declarations *declarations, const xmlEntity *ent
     if (entity->name == NULL) {
         bytes_add_byte(&text, '\n'); /* of the external DTD libxml2 would read a second mark or declaration at the start */
     }
-    bool is_read = twin != NULL && external_read(entity->ExternalID, entity->URI, &text, &path, &why);
+    const struct external external = {entity->ExternalID, entity->URI, declarations->feed->decoding.is_1_1};
+    bool is_read = twin != NULL && external_read(&external, &text, &path, &why);
     if (twin != NULL && !is_read) {
         refuse_external(declarations, entity->SystemID, &why);
     }
     if (is_read) {
         declarations->loaded += text.length;
+        if (type == XML_INTERNAL_PARAMETER_ENTITY) {
+            hide(declarations, text.data, text.length);
+        }
         check_text(declarations, (struct span){text.data, text.length}, type == XML_INTERNAL_PARAMETER_ENTITY);
         if (declarations->loaded > MOST_LOADED) {
             refuse(declarations, "over a limit of this program: external entities of more than 67,108,864 bytes");
@@ -416,6 +433,11 @@ static xmlEntityPtr external_of(struct declarations *declarations, xmlEntityPtr 
     return NULL;
 }
 
+/* Whether a reference outside the DTD gives a control character. In the DTD it may be in a default that no tag has. */
+static bool gives_control(const struct declarations *declarations, const char *text) {
+    return declarations->feed->parser->inSubset == 0 && has_hidden((struct span){text, strlen(text)});
+}
+
 xmlEntityPtr declarations_general(struct declarations *declarations, const xmlChar *name) {
     const struct feed *feed = declarations->feed;
     bool is_in_value = feed->parser->instate == XML_PARSER_ATTRIBUTE_VALUE;
@@ -437,6 +459,10 @@ xmlEntityPtr declarations_general(struct declarations *declarations, const xmlCh
     }
     if (entity->etype != XML_INTERNAL_GENERAL_ENTITY || entity->content == NULL) {
         return entity;
+    }
+    if (feed->prolog.has_hidden && gives_control(declarations, (const char *)entity->content)) {
+        refuse(declarations, control_character);
+        return NULL;
     }
     if (is_plain(declarations, (const char *)entity->content)) {
         declarations->plain.content = entity->content;

@@ -8,6 +8,9 @@
 
 #include <libxml/hash.h>
 
+/* Why a document is not judged that has a control character. */
+extern const char control_character[];
+
 /* A declaration of a namespace that an element has by default. */
 struct namespace_default {
     char *element;
@@ -56,7 +59,7 @@ xmlParserInputPtr declarations_input(struct declarations *declarations, const xm
 
 /* The handlers of libxml2 for declarations. */
 void declarations_subset(struct declarations *declarations, const xmlChar *name, const xmlChar *public, const xmlChar *system);
-void declarations_entity(struct declarations *declarations, bool is_parameter, const xmlChar *text);
+void declarations_entity(struct declarations *declarations, bool is_parameter, xmlChar *text);
 
 /* Notes that libxml2 has the entity: a document that stands alone may not refer to one that is declared in a parameter entity. */
 void declarations_declared(struct declarations *declarations, const xmlChar *name);

@@ -4,8 +4,14 @@
 
 enum {
     DECLARATION_BYTES = 65536,
-    PLAIN_BYTES = 128 /* that are looked at together */
+    PLAIN_BYTES = 128, /* that are looked at together */
+    DELETE = 0x7F,     /* the first of the control characters that end before .. */
+    FIRST_BEHIND_CONTROLS = 0xA0,
+    NEXT_LINE = 0x85,
+    LINE_SEPARATOR = 0x2028
 };
+
+static const char NEXT_LINE_BEGINS = '\xC2'; /* in UTF-8 */
 
 static void refuse(struct decoding *decoding, enum fault_kind kind, const char *what) {
     fault_set(&decoding->fault, kind, (struct place){0, 0}, "%s", what);
@@ -84,14 +90,18 @@ static void open_declared(struct decoding *decoding, struct span encoding) {
     }
 }
 
+static bool is_1_1(const struct xml_declaration *declaration) {
+    return declaration->is_there && is_named(declaration->version, "1.1");
+}
+
 /* Sets the encoding, after the declaration was read. UTF-16 and UTF-32 have a byte order mark, or the declaration names them. */
 static void set_encoding(struct decoding *decoding, const struct xml_declaration *declaration, bool is_marked) {
     struct span encoding = declaration->encoding;
     const char *wide = encoding_of(decoding->family);
     if (declaration->wrong != NULL) {
         fault_set(&decoding->fault, FAULT_MALFORMED, (struct place){0, 0}, "malformed XML: %s", declaration->wrong);
-    } else if (declaration->is_there && is_named(declaration->version, "1.1")) {
-        refuse(decoding, FAULT_OUTSIDE, "XML 1.1: outside the profile");
+    } else if (decoding->is_external && !decoding->is_1_1 && is_1_1(declaration)) {
+        refuse(decoding, FAULT_OUTSIDE, "it is XML 1.1, and the document is not");
     } else if (decoding->family == FAMILY_EBCDIC) {
         open_declared(decoding, encoding.data == NULL ? (struct span){"cp037", 5} : encoding);
     } else if (wide != NULL && encoding.data == NULL && !is_marked) {
@@ -148,6 +158,7 @@ static void find_encoding(struct decoding *decoding, bool is_end) {
         decoding->is_known = is_end || !declaration.is_there || declaration.is_whole;
         if (decoding->is_known) {
             set_encoding(decoding, &declaration, mark > 0);
+            decoding->is_1_1 |= is_1_1(&declaration);
             decoding->dropped = decoding->is_external ? declaration.length : 0;
             bytes_cut_front(&decoding->first, mark);
         } else if (decoding->first.length > DECLARATION_BYTES) {
@@ -219,6 +230,28 @@ static size_t plain_length(const char *bytes, size_t length) {
     return at;
 }
 
+/* The same by the rules of XML 1.1, for which a delete is no plain character. */
+static size_t plain_length_1_1(const char *bytes, size_t length) {
+    size_t at = 0;
+    while (at < length && is_plain(bytes[at]) && bytes[at] != DELETE) {
+        at++;
+    }
+    return at;
+}
+
+/* Adds a character of other than one byte, or a delete, by the rules of XML 1.1 (2.2 and 2.11). */
+static void add_code_1_1(struct decoding *decoding, unsigned code, struct span character, struct bytes *text) {
+    bool is_line_end = code == NEXT_LINE || code == LINE_SEPARATOR;
+    if (!is_line_end && code >= DELETE && code < FIRST_BEHIND_CONTROLS) {
+        refuse(decoding, FAULT_MALFORMED, "malformed XML: a control character that XML 1.1 allows only by a reference");
+    } else if (!is_line_end) {
+        bytes_add(text, character.data, character.length);
+    } else if (code == LINE_SEPARATOR || !decoding->after_return) {
+        bytes_add_byte(text, '\n');
+    }
+    decoding->after_return = false;
+}
+
 /* Adds the character at the start of the bytes, which is no plain one. Returns how many bytes it has; 0: it is not whole, or there is a fault. */
 static size_t add_character(struct decoding *decoding, const char *bytes, size_t length, struct bytes *text) {
     if (bytes[0] == '\r') {
@@ -230,14 +263,25 @@ static size_t add_character(struct decoding *decoding, const char *bytes, size_t
     if (size > length && !decoding->is_transcoded) {
         return 0;
     }
-    if (size == 0 || size > length || code_of(bytes, size) == 0) {
+    unsigned code = size == 0 || size > length ? 0 : code_of(bytes, size);
+    if (code == 0) {
         refuse(decoding, FAULT_MALFORMED, size <= 1 && (unsigned char)bytes[0] < 0x80 ? "malformed XML: a character that XML does not allow"
                                           : decoding->is_transcoded ? "malformed XML: bytes that are no character of the encoding"
                                                                     : "malformed XML: bytes that are no character of UTF-8");
         return 0;
     }
-    bytes_add(text, bytes, size);
+    if (decoding->is_1_1) {
+        add_code_1_1(decoding, code, (struct span){bytes, size}, text);
+    } else {
+        bytes_add(text, bytes, size);
+    }
     return size;
+}
+
+/* Takes what belongs to a carriage return before the bytes. Returns how many bytes that is. In XML 1.1 a next line may belong to it, which is not plain. */
+static size_t take_after_return(struct decoding *decoding, const char *bytes) {
+    decoding->after_return = decoding->is_1_1 && bytes[0] == NEXT_LINE_BEGINS;
+    return bytes[0] == '\n';
 }
 
 /* Adds UTF-8 to the text. Returns how many bytes were taken: all but the start of a character at the end, unless there is a fault. */
@@ -245,10 +289,9 @@ static size_t add_text(struct decoding *decoding, const char *bytes, size_t leng
     size_t at = 0;
     while (at < length && decoding->fault.kind == FAULT_NONE) {
         if (decoding->after_return) {
-            decoding->after_return = false;
-            at += bytes[at] == '\n';
+            at += take_after_return(decoding, bytes + at);
         }
-        size_t plain = plain_length(bytes + at, length - at);
+        size_t plain = decoding->is_1_1 ? plain_length_1_1(bytes + at, length - at) : plain_length(bytes + at, length - at);
         bytes_add(text, bytes + at, plain);
         at += plain;
         if (at < length) {

@@ -1,5 +1,5 @@
 /* Decodes a document: finds how its characters are written (XML 1.0, 4.3.3 and appendix F), and gives them as UTF-8 with a line feed for each line end
- * (2.11). Each character that it gives is one that XML allows. */
+ * (2.11, also of XML 1.1). Each character that it gives is one that XML allows. */
 #ifndef DECODING_H
 #define DECODING_H
 
@@ -20,6 +20,7 @@ enum family {
 
 struct decoding {
     bool is_external; /* it is an external entity. Its text declaration is no part of its text */
+    bool is_1_1;      /* its rules are those of XML 1.1. For an external entity, this is set at first if the document has them */
     size_t dropped;   /* how many bytes of UTF-8 are still to be dropped for that */
     struct bytes first; /* the first bytes, until they show the encoding */
     bool is_known;
@@ -33,7 +34,7 @@ struct decoding {
     struct fault fault;   /* why nothing comes after the text that was given. Its place is the end of that text */
 };
 
-#define NO_DECODING {false, 0, NO_BYTES, false, FAMILY_BYTES, NO_TRANSCODER, false, NO_BYTES, {0}, 0, false, NO_FAULT}
+#define NO_DECODING {false, false, 0, NO_BYTES, false, FAMILY_BYTES, NO_TRANSCODER, false, NO_BYTES, {0}, 0, false, NO_FAULT}
 
 /* Adds the characters of the bytes to the text. Once there is a fault, no more are added. */
 void decoding_take(struct decoding *decoding, const char *bytes, size_t length, struct bytes *text);

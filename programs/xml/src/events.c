@@ -5,6 +5,7 @@
 #include "parser_memory.h"
 #include "parser_words.h"
 #include "tag_names.h"
+#include "withdrawn.h"
 
 #include <libxml/SAX2.h>
 #include <libxml/parserInternals.h>
@@ -22,6 +23,7 @@ enum {
 struct reader {
     struct feed feed;
     struct declarations declarations;
+    struct withdrawn withdrawn;
     struct event_sink sink;
     struct fault *fault;
     struct start_event start; /* the last one, with what is open now as its depth */
@@ -299,6 +301,76 @@ static void add_attributes(struct reader *reader, struct start_event *start, int
     start->attributes = reader->attributes;
 }
 
+/* Refuses a tag that takes back a prefix which it declares. libxml2 cannot tell whether it declares it by default, which would not count. */
+static void take_both(struct reader *reader, const struct start_event *start, const struct event_declaration *both) {
+    bool may_be_default = false;
+    for (size_t at = 0; at < reader->declarations.default_count && !may_be_default; at++) {
+        const struct namespace_default *found = &reader->declarations.defaults[at];
+        const char *prefix = found->name[5] == '\0' ? "" : found->name + 6;
+        may_be_default = is_written(start->name, found->element) && is_text(both->prefix, prefix, strlen(prefix));
+    }
+    if (may_be_default) {
+        fault_set(reader->fault, FAULT_OUTSIDE, place_of(start->position),
+                  "a prefix that XML 1.1 lets an element take back, which a DTD declares: outside the profile");
+    } else {
+        fault_set(reader->fault, FAULT_MALFORMED, place_of(start->position), "malformed XML: the attribute xmlns:%.*s is there twice", (int)both->prefix.length,
+                  both->prefix.data);
+    }
+}
+
+/* Does for XML 1.1 what libxml2 does not: takes back the prefixes that the tag takes back. */
+static void take_withdrawn(struct reader *reader, struct start_event *start) {
+    struct withdrawn *withdrawn = &reader->withdrawn;
+    const struct event_declaration *both = withdrawn_take(withdrawn, reader->declared, start);
+    const struct event_name *name = withdrawn_name(withdrawn, start);
+    reader->searched += (start->declaration_count + start->attribute_count + 1) * (uint64_t)withdrawn->count;
+    if (withdrawn->failed) {
+        out_of_memory(reader);
+    } else if (both != NULL) {
+        take_both(reader, start, both);
+    } else if (withdrawn->count > 0 && reader->sink.reads_prefixes) {
+        fault_set(reader->fault, FAULT_OUTSIDE, place_of(start->position), "a prefix that XML 1.1 lets an element take back: outside the profile");
+    } else if (name != NULL && reader->sink.checks_names) {
+        struct bytes words = NO_BYTES;
+        bytes_format(&words, "the prefix '%.*s' is not declared (NS 5)", (int)name->prefix.length, name->prefix.data);
+        const char *text = bytes_text(&words);
+        if (words.failed) {
+            out_of_memory(reader);
+        }
+        fault_set_clause(reader->fault, 11, place_of(start->position), text);
+        bytes_free(&words);
+    } else if (name != NULL) {
+        fault_set(reader->fault, FAULT_MALFORMED, place_of(start->position), "malformed XML: the prefix '%.*s' is not declared", (int)name->prefix.length,
+                  name->prefix.data);
+    }
+}
+
+/* Whether one of the attributes by default, which are the last ones, has a control character. */
+static bool has_control_by_default(const struct start_event *start, size_t default_count) {
+    bool is_found = false;
+    for (size_t at = start->attribute_count - default_count; at < start->attribute_count && !is_found; at++) {
+        is_found = has_hidden(start->attributes[at].value);
+    }
+    return is_found;
+}
+
+/* Whether a namespace that the tag declares has one. */
+static bool has_control_in_namespace(const struct start_event *start) {
+    bool is_found = false;
+    for (size_t at = 0; at < start->declaration_count && !is_found; at++) {
+        is_found = has_hidden(start->declarations[at].uri);
+    }
+    return is_found;
+}
+
+/* Reads the tag by the rules of XML 1.1. */
+static void read_1_1(struct reader *reader, struct start_event *start, size_t default_count) {
+    if (reader->feed.prolog.has_hidden && (has_control_by_default(start, default_count) || has_control_in_namespace(start))) {
+        fault_set(reader->fault, FAULT_OUTSIDE, place_of(start->position), "%s", control_character);
+    }
+    take_withdrawn(reader, start);
+}
+
 /* Finds out whether the tag breaks Namespaces in XML, if that is wanted. */
 static void check_names(struct reader *reader, const struct start_event *start) {
     struct bytes words = NO_BYTES;
@@ -380,6 +452,9 @@ static OUT_OF_LINE void take_any_start(void *context, const xmlChar *local, cons
     start->name = name_of(reader, local, prefix, uri);
     start->has_fleeting_name = start->name == &reader->names.other;
     add_declarations(reader, start, namespace_count, namespaces);
+    if (reader->feed.decoding.is_1_1 && is_good(reader)) {
+        read_1_1(reader, start, (size_t)default_count);
+    }
     if (is_good(reader)) {
         hand_start(reader, start);
     }
@@ -387,7 +462,7 @@ static OUT_OF_LINE void take_any_start(void *context, const xmlChar *local, cons
     start->has_fleeting_name = false;
     reader->has_double = false;
     reader->has_undeclared = false;
-    reader->is_unusual = reader->declarations.default_count > 0;
+    reader->is_unusual = reader->declarations.default_count > 0 || reader->withdrawn.count > 0;
 }
 
 /* Whether a start tag is usual: in the document, of a known name, with nothing that is declared or that is there by default. `searched` is then what is
@@ -635,6 +710,27 @@ static void take_malformed(struct reader *reader, parser_error *error) {
     bytes_free(&words);
 }
 
+/* Takes a prefix that a tag takes back, which libxml2 passes over. */
+static void take_prefix(struct reader *reader, const char *prefix) {
+    reader->is_unusual = true;
+    if (!withdrawn_add(&reader->withdrawn, span_of((const xmlChar *)prefix), reader->start.depth + 1)) {
+        fault_set(reader->fault, FAULT_MALFORMED, error_place(reader, &(parser_error){.code = XML_ERR_ATTRIBUTE_REDEFINED}),
+                  "malformed XML: the attribute xmlns:%s is there twice", prefix);
+    }
+}
+
+/* Takes an error that is none in XML 1.1. False: it is one. */
+static bool take_1_1(struct reader *reader, const parser_error *error) {
+    if (takes_prefix_back(error)) {
+        take_prefix(reader, error->str1);
+    } else if (error->domain == XML_FROM_PARSER && error->code == XML_ERR_INVALID_CHAR && is_control(error->int1)) {
+        fault_set(reader->fault, FAULT_OUTSIDE, error_place(reader, error), "%s", control_character);
+    } else {
+        return false;
+    }
+    return true;
+}
+
 /* Whether libxml2 is behind the system identifier of a parameter entity, or may be. It drops such a declaration if the identifier is no URI for it, and then
  * a later declaration would count. */
 static bool declares_parameter(const xmlParserCtxt *parser, const char *identifier) {
@@ -660,6 +756,8 @@ static void take_error(void *context, parser_error *error) {
     }
     if (error->code == XML_ERR_NO_MEMORY || reader->memory.has_failed) {
         out_of_memory(reader);
+    } else if (reader->feed.decoding.is_1_1 && take_1_1(reader, error)) {
+        return;
     } else if (error->code == XML_ERR_UNDECLARED_ENTITY || error->code == XML_WAR_UNDECLARED_ENTITY) {
         take_undeclared(reader, error->str1 == NULL ? "" : error->str1);
     } else if (error->domain == XML_FROM_NAMESPACE && error->code == XML_NS_ERR_QNAME) {
@@ -797,6 +895,7 @@ void read_events(const struct byte_source *source, const struct event_sink *sink
     open_reader(reader, source, sink, fault);
     read_by_libxml2(reader);
     feed_close(&reader->feed);
+    withdrawn_free(&reader->withdrawn);
     free(reader->attributes);
     free(reader->declared);
     free(reader);

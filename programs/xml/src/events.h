@@ -63,6 +63,7 @@ struct event_sink {
     size_t (*held)(const void *context); /* how many bytes it keeps of the document; NULL: none that grow with it */
     void *context;
     bool checks_names; /* a tag that breaks Namespaces in XML is a fault, with its clause */
+    bool reads_prefixes; /* prefixes in values have a meaning for it, so a tag that takes one back is a fault */
     size_t depth;      /* the most elements that may be open; 0: USUAL_DEPTH */
     size_t memory;     /* the most bytes that may be held of the document; 0: USUAL_MEMORY */
 };

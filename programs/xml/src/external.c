@@ -105,8 +105,8 @@ static int open_file(const char *path, struct fault *fault) {
     return -1;
 }
 
-bool external_read(const xmlChar *public, const xmlChar *uri, struct bytes *text, struct bytes *path, struct fault *fault) {
-    if (uri == NULL || !find(public, uri, path)) {
+bool external_read(const struct external *entity, struct bytes *text, struct bytes *path, struct fault *fault) {
+    if (entity->uri == NULL || !find(entity->public, entity->uri, path)) {
         return fails(fault, FAULT_OUTSIDE, "nothing is fetched");
     }
     int file = open_file(bytes_text(path), fault);
@@ -115,6 +115,7 @@ bool external_read(const xmlChar *public, const xmlChar *uri, struct bytes *text
     }
     struct decoding decoding = NO_DECODING;
     decoding.is_external = true;
+    decoding.is_1_1 = entity->is_1_1;
     bool is_good = read_all(file, &decoding, text, fault);
     close(file);
     if (is_good) {

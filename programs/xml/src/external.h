@@ -6,8 +6,14 @@
 
 #include <libxml/parser.h>
 
-/* Reads the text of an external entity or DTD, as UTF-8 and without its text declaration. `uri` is where the document says that it is, and a catalog of XML may
- * say otherwise. Adds the path to `path`. False: `fault` says why, without a place. */
-bool external_read(const xmlChar *public, const xmlChar *uri, struct bytes *text, struct bytes *path, struct fault *fault);
+/* An external entity or DTD. */
+struct external {
+    const xmlChar *public;
+    const xmlChar *uri; /* where the document says that it is. A catalog of XML may say otherwise */
+    bool is_1_1;        /* whether the document has the rules of XML 1.1, which then are those of the entity */
+};
+
+/* Reads its text, as UTF-8 and without its text declaration. Adds the path to `path`. False: `fault` says why, without a place. */
+bool external_read(const struct external *entity, struct bytes *text, struct bytes *path, struct fault *fault);
 
 #endif

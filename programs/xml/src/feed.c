@@ -387,12 +387,34 @@ static void stop_asking(struct feed *feed) {
     }
 }
 
+/* Whether references to control characters are to be hidden. */
+static bool hides(const struct feed *feed) {
+    return feed->decoding.is_1_1 && feed->prolog.kind != '<';
+}
+
+/* Whether there is enough of the text for libxml2, which wants so many bytes. */
+static bool has_enough(const struct feed *feed, size_t wanted) {
+    return feed->text.length - feed->given >= wanted + (hides(feed) ? LONGEST_CONTROL : 0);
+}
+
+/* Gives so many bytes to libxml2. */
+static void give(struct feed *feed, char *bytes, size_t count) {
+    const char *from = feed->text.data + feed->given;
+    size_t left = feed->text.length - feed->given;
+    size_t hidden = 0;
+    for (; hidden < count && hides(feed); hidden++) {
+        bytes[hidden] = prolog_byte(&feed->prolog, feed->begin + feed->given + hidden, (struct span){from + hidden, left - hidden});
+    }
+    memcpy(bytes + hidden, from + hidden, count - hidden);
+    feed->given += count;
+}
+
 /* libxml2 looks ahead in what it gets at once, so it gets all that it asks for unless the document ends. */
 int feed_read(void *context, char *bytes, int length) {
     struct feed *feed = context;
     size_t wanted = length > 0 ? (size_t)length : 0;
     feed->keep(feed->context);
-    while (feed->fault->kind == FAULT_NONE && feed->text.length - feed->given < wanted && !feed->has_ended && feed->decoding.fault.kind == FAULT_NONE) {
+    while (feed->fault->kind == FAULT_NONE && !has_enough(feed, wanted) && !feed->has_ended && feed->decoding.fault.kind == FAULT_NONE) {
         forget(feed);
         feed->before_read(feed->context);
         if (feed->fault->kind != FAULT_NONE || !read_more(feed)) {
@@ -412,8 +434,7 @@ int feed_read(void *context, char *bytes, int length) {
     if (count == 0) {
         return 0;
     }
-    memcpy(bytes, feed->text.data + feed->given, count);
-    feed->given += count;
+    give(feed, bytes, count);
     stop_asking(feed);
     uint64_t markup = feed_markup(feed);
     check_tag(feed, markup);

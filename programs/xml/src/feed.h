@@ -1,9 +1,11 @@
 /* Gives a document's text to libxml2 as it reads, and knows the place of each offset in the text.
  *
- * The text is what `decoding.h` makes of the document, so libxml2 sees UTF-8 with a line feed for each line end, whatever the document's encoding. */
+ * The text is what `decoding.h` makes of the document, so libxml2 sees UTF-8 with a line feed for each line end, whatever the document's encoding. In XML 1.1
+ * it does not see what `controls.h` hides. */
 #ifndef FEED_H
 #define FEED_H
 
+#include "controls.h"
 #include "decoding.h"
 #include "events.h"
 
@@ -45,6 +47,7 @@ struct feed {
     uint64_t choices_begin; /* where the counting began */
     uint64_t next;      /* the offset of the markup or the text that is being read */
     struct tag_scan scan;
+    struct prolog prolog; /* in a document of XML 1.1 */
     struct bytes room;  /* where the document's bytes are read */
     uint64_t long_at;   /* the offset of markup that is so long that its beginning is not kept, .. */
     struct place long_place;

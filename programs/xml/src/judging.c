@@ -653,7 +653,8 @@ static void answer_all(struct judging *judging) {
 
 static void read_source(struct judging *judging, const struct byte_source *source) {
     const struct shared *shared = judging->judge->shared;
-    struct event_sink sink = {take_start, take_text, take_end, take_instruction, take_note, NULL, keep, held, judging, true, shared->depth, shared->memory};
+    struct event_sink sink = {take_start, take_text, take_end, take_instruction, take_note, NULL, keep, held, judging, true, false, shared->depth,
+                              shared->memory};
     read_events(source, &sink, judging->fault);
 }
 

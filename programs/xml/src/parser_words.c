@@ -19,6 +19,11 @@ bool is_malformed(parser_error *error) {
     return error->level >= XML_ERR_ERROR && error->code != XML_ERR_INVALID_URI && !is_of_validity(error);
 }
 
+bool takes_prefix_back(const parser_error *error) {
+    bool is_of_tag = error->domain == XML_FROM_NAMESPACE && error->code == XML_NS_ERR_XML_NAMESPACE && error->str1 != NULL;
+    return is_of_tag && strstr(known(error->message), "Empty XML namespace") != NULL;
+}
+
 bool is_limit(parser_error *error) {
     bool is_deep = error->code == XML_ERR_ELEMCONTENT_NOT_FINISHED && strstr(known(error->message), "too deep") != NULL;
     return error->domain == XML_FROM_PARSER && (is_deep || error->code == XML_ERR_NAME_TOO_LONG || error->code == XML_ERR_URI_FRAGMENT);

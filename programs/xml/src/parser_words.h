@@ -18,6 +18,9 @@ bool is_of_validity(parser_error *error);
 /* Whether the error makes the document malformed: it breaks XML 1.0, or Namespaces in XML in a way that is not found by the names of tags. */
 bool is_malformed(parser_error *error);
 
+/* Whether a tag takes a prefix back, the first of the error's strings. Namespaces in XML 1.1 allows that. */
+bool takes_prefix_back(const parser_error *error);
+
 /* Whether libxml2 does not go on at something that XML allows. */
 bool is_limit(parser_error *error);
 const char *limit_words(parser_error *error);

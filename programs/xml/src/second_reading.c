@@ -336,7 +336,7 @@ static size_t held(const void *context) {
 
 static void read_again(struct second_pass *pass, const struct shared *shared, const struct byte_source *source) {
     struct fault fault = NO_FAULT;
-    struct event_sink sink = {take_start, take_text, take_end, take_instruction, take_note, NULL, NULL, held, pass, true, shared->depth, shared->memory};
+    struct event_sink sink = {take_start, take_text, take_end, take_instruction, take_note, NULL, NULL, held, pass, true, false, shared->depth, shared->memory};
     pass->fault = &fault;
     read_events(source, &sink, &fault);
     fault_free(&fault);

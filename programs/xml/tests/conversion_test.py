@@ -305,6 +305,60 @@ class Declared(Converted):
         self.assertLess(processor_seconds() - begun, 4)
 
 
+class NewVersion(Converted):
+    """XML 1.1: what it reads otherwise than XML 1.0."""
+
+    HEAD = '<?xml version="1.1"?>'
+    CONTROL = "a control character by a reference, which XML 1.1 has: outside the profile"
+
+    def test_line_ends(self):
+        for encoding in ("utf-8", "utf-16", "utf-8-sig"):
+            out, places, _, status = self.converted(f"{self.HEAD}\u0085<a x='\r\u0085'>\u2028\r\r\n  <b/>\u00a9\u0085t</a>".encode(encoding))
+            self.assertEqual((out.decode(), status), ("(a\nAx  \n-\\n\\n\\n  \n(b\n)b\n-\u00a9\\nt\n)a\n", 0))
+            self.assertEqual(places, [(2, 1), (2, 1), (3, 3), (6, 3), (6, 7), (6, 7), (7, 2)])
+
+    def test_places_behind_them(self):
+        for text, place in (("\u0085<a>\r\u0085 <b></c></a>", (3, 5)), ("<a>\u2028\u2028\u007f</a>", (3, 1)), ("<a><!--\r\u0085\u0085-->&u;</a>", (3, 4)),
+                            ("<!DOCTYPE a [\u0085<!ENTITY e '&#1;&#x001f;'>\u0085<!X>]><a/>", (3, 1)), ("<!DOCTYPE a [<!ENTITY e '&#x001f;'><!X>]><a/>", (1, 57))):
+            self.assertEqual(self.fault(self.HEAD + text)[:2], place, text)
+
+    def test_pieces(self):
+        """Characters and references that a piece of the document cuts are read as others."""
+        for length in range(65_480, 65_540):
+            out = self.pyx(f"{self.HEAD}<!DOCTYPE a [<!--{'x' * length}--><!ENTITY e '&#x000000001;'>]><a>\r\u0085\u2028\u0085</a>")
+            self.assertEqual(out, b"(a\n-\\n\\n\\n\n)a\n", length)
+        for length in range(65_500, 65_540):
+            out = self.pyx(f"{self.HEAD}<a><!--{'x' * length}-->\r\u0085\u2028\u0085</a>")
+            self.assertEqual(out, b"(a\n-\\n\\n\\n\n)a\n", length)
+
+    def test_pieces_of_what_the_parser_asks_for(self):
+        for length in range(3_900, 4_200):
+            subset = f"<!--{'x' * length}--><!ENTITY e '&#1;'><!ENTITY f '&#x000000000000001f;'><!ATTLIST b x CDATA '&#2;'>"
+            self.assertEqual(self.pyx(f"{self.HEAD}<!DOCTYPE a [{subset}]><a/>"), b"(a\n)a\n", length)
+
+    def test_control_characters(self):
+        for text, place in (("<a>&#1;</a>", (1, 29)), ("<a x='&#x1f;'/>", (1, 34)), ("<!DOCTYPE a [<!ENTITY e '&#1;'>]><a>\n&e;</a>", (2, 1)),
+                            ("<!DOCTYPE a [<!ENTITY e '&#1;'><!ATTLIST a x CDATA '&e;'>]>\n <a/>", (2, 2))):
+            self.assertEqual(self.fault(self.HEAD + text), (*place, self.CONTROL), text)
+        self.assertEqual(self.fault(f"{self.HEAD}<a>\n\u0080</a>"), (2, 1, "malformed XML: a control character that XML 1.1 allows only by a reference"))
+        self.assertEqual(self.fault("<a>&#1;</a>")[2], "malformed XML: invalid xmlChar value 1")
+
+    def test_prefixes_that_are_taken_back(self):
+        self.assertEqual(self.pyx(f"{self.HEAD}<a xmlns:p='u'><b xmlns:p=''><c/></b><p:d/></a>"), b"(a\nAxmlns:p u\n(b\n(c\n)c\n)b\n(p:d\n)p:d\n)a\n")
+        found = self.fault(f"{self.HEAD}<a xmlns:p='u'>\n<b xmlns:p=''>\n<p:c/></b></a>")
+        self.assertEqual(found, (3, 1, "malformed XML: the prefix 'p' is not declared"))
+        found = self.fault(f"{self.HEAD}<!DOCTYPE a [<!ATTLIST a xmlns:p CDATA 'u'>]>\n<a xmlns:p=''/>")
+        self.assertEqual(found, (2, 1, "a prefix that XML 1.1 lets an element take back, which a DTD declares: outside the profile"))
+
+    def test_time_of_prefixes(self):
+        """It does not grow with the product of those that are taken back and of the tags."""
+        many = "".join(f" xmlns:p{number}=''" for number in range(9_000))
+        begun = processor_seconds()
+        self.assertIn("too many declarations of namespaces", self.fault(f"{self.HEAD}<a{many}>{'<b x:c=' + chr(39) * 2 + '/>'}{'<b/>' * 200_000}</a>"
+                                                                         .replace("x:c", "c"))[2])
+        self.assertLess(processor_seconds() - begun, 10)
+
+
 class LoadedDtd(Converted):
     """With `--dtd` the external DTD and external entities are read, from files."""
 
@@ -346,6 +400,19 @@ class LoadedDtd(Converted):
                          f'<!DOCTYPE a [<!ENTITY % e SYSTEM "{system}">%e;]><a/>'):
                 out, errors, status = self.loaded(text)
                 self.assertEqual((errors.split(": ", 1)[1], status), (f"'{system}' is not loaded, {why}: outside the profile\n", 2), text)
+
+    def test_versions(self):
+        """In a document of XML 1.1 its rules are those of each external entity. One of XML 1.0 has none of XML 1.1."""
+        entity = "<?xml version='1.1' encoding='UTF-8'?>v\u0085w&#1;".encode()
+        self.FILES = {**LoadedDtd.FILES, "old.xml": "v\r\u0085w\u2028".encode(), "new.xml": entity[:-4], "control.xml": entity,
+                      "e.dtd": "<!ENTITY e '&#1;'>\u0085<!ENTITY f 'v'><!ATTLIST b x CDATA '&#2;'>".encode()}
+        text = "<?xml version='1.{}'?><!DOCTYPE a {}[<!ENTITY g SYSTEM '{}'>]><a>&{};</a>"
+        for version, external, file, name, wanted in (
+                ("1", "", "old.xml", "g", "v\\nw\\n"), ("1", "", "new.xml", "g", "v\\nw"), ("0", "", "old.xml", "g", "v\\n\u0085w\u2028"),
+                ("0", "", "new.xml", "g", None), ("1", "", "control.xml", "g", None), ("1", "SYSTEM 'e.dtd' ", "-", "f", "v"), ("1", "SYSTEM 'e.dtd' ", "-", "e", None)):
+            out, errors, status = self.loaded(text.format(version, external, file, name))
+            found = (out, status) if wanted else ("outside the profile" in errors, status)
+            self.assertEqual(found, (f"(a\n-{wanted}\n)a\n", 0) if wanted else (True, 2), (version, external, file, name, errors))
 
     def test_what_is_malformed_there(self):
         for name, data in (("d.dtd", b"\xef\xbb\xbf" * 2), ("d.dtd", b"<?xml encoding='UTF-8'?>" * 2), ("d.dtd", b"<!ELEMENT a"), ("d.dtd", b"\xff"), ("d.dtd", b"<?xml version='1.0'?>"), ("d.dtd", b"%d;<!ENTITY % d SYSTEM 'd.dtd'>%d;"),
