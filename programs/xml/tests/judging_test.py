@@ -496,6 +496,8 @@ class Formats(InFolder):
         self.assertEqual(self.judge("--source", "s.rnc", "bad.xml")[0], plain + shown)
         self.assertEqual(self.judge("--source", "--no-source", "s.rnc", "bad.xml")[0], plain)
         self.assertEqual(self.judge("--source", "s.rnc", "-", given=b"<b/>")[0].count("\n"), 1)
+        self.write("new.xml", '<?xml version="1.1"?>\u0085<a x="1"><b/>\r\u0085\u2028\r  <c/>\u0085</a>')
+        self.assertEqual(self.judge("--source", "s.rnc", "new.xml")[0], plain.replace("bad.xml:3:3", "new.xml:5:3") + shown)
         for more, wanted in (({}, colored + shown), ({"NO_COLOR": "1"}, plain + shown), ({"TERM": "dumb"}, plain + shown)):
             # without a terminal for errors, on which a slow run shows its progress
             run = subprocess.run(["script", "-qec", f"{RNCV_XML} s.rnc bad.xml 2> /dev/null", "/dev/null"], cwd=self.folder, stdin=subprocess.DEVNULL,
