@@ -61,7 +61,7 @@ def plain_names(text):
 
 
 def plain_version(text):
-    return re.sub(r"^(\ufeff?<\?xml\s+version\s*=\s*[\"'])1\.[0-9]+", r"\g<1>1.0", text)
+    return re.sub(r"^(\ufeff?<\?xml\s+version\s*=\s*[\"'])1\.(?!1[\"'])[0-9]+", r"\g<1>1.0", text)
 
 
 def small_characters(text):
@@ -116,6 +116,7 @@ CHANGES = (
     ("jing-defaults", "ours", with_text(trimmed)),
     ("jing-encodings", "ours", plain_encoding),
     ("jing-blanks", "theirs", with_text(spaced)),
+    ("jing-instructions", "ours", with_text(lambda text: text + "\n")),
     ("standalone", "theirs", with_text(not_standalone)),
     ("marks", "theirs", marked),
     ("declared-names", "theirs", with_text(plain_colons)),

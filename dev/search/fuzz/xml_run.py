@@ -17,6 +17,7 @@ import argparse
 import collections
 import pathlib
 import random
+import re
 import sys
 import tempfile
 import time
@@ -116,6 +117,7 @@ class Bench:
     def by_events(self, name, ours):
         """The PYX of xml2pyx beside what the parser of jing reports."""
         theirs = self.jing.pyx(name) if self.converter else ours
+        theirs = theirs and re.sub(rb"(?m)^Axmlns:[^ \n]+ \n", b"", theirs)  # no line of PYX takes a prefix back, as XML 1.1 does
         if ours == theirs:
             return None
         return Difference("events", xml_judges.Said("valid", repr(ours)), xml_judges.Said("valid", repr(theirs)))
