@@ -34,7 +34,8 @@ PIECES = ("<!DOCTYPE a [", "]>", "<!--", "-->", "<![CDATA[", "]]>", "<?p ", "?>"
           "'", '"', " ", "\n", "\r", "\t", "=", "x='1'", "xmlns='u'", "xmlns:p='u'", "p:x='1'", "<b/>", "<b>", "</b>", "<!ENTITY g 'x'>",
           "<!ENTITY % m '<!--x-->'>", "<!ATTLIST a x CDATA 'd'>", "<!ATTLIST a x NMTOKENS #IMPLIED>", "<!ELEMENT a ANY>", "<!NOTATION t SYSTEM 't'>",
           "SYSTEM 's.ent'", "<?xml version='1.0'?>", "<?xml version='1.1'?>", "standalone='yes'", "\x00", "\x01", "\ufffe", "\u0085", "a:b:c", ":", "#", "%",
-          "xmlns:p=''", "xmlns:q=''", "&#1;", "\u2028", "\x7f", "[", "]", "(", ")", "|", ",", "*", "?", " NDATA ", " NDATA t", " SYSTEM ", " PUBLIC ", "#FIXED ", "(#PCDATA|b)*", "(v|w)", "()", "''", '""', "--",
+          "xmlns:p=''", "xmlns:q=''", "&#1;", "\u2028", "\x7f",
+          "[", "]", "(", ")", "|", ",", "*", "?", " NDATA ", " NDATA t", " SYSTEM ", " PUBLIC ", "#FIXED ", "(#PCDATA|b)*", "(v|w)", "()", "''", '""', "--",
           "<!ENTITY g SYSTEM 's.ent'>", "<!ENTITY % m SYSTEM 's.mod'>", "<!ENTITY % m ''>%m;")
 
 

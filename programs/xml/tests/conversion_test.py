@@ -319,7 +319,8 @@ class NewVersion(Converted):
 
     def test_places_behind_them(self):
         for text, place in (("\u0085<a>\r\u0085 <b></c></a>", (3, 5)), ("<a>\u2028\u2028\u007f</a>", (3, 1)), ("<a><!--\r\u0085\u0085-->&u;</a>", (3, 4)),
-                            ("<!DOCTYPE a [\u0085<!ENTITY e '&#1;&#x001f;'>\u0085<!X>]><a/>", (3, 1)), ("<!DOCTYPE a [<!ENTITY e '&#x001f;'><!X>]><a/>", (1, 57))):
+                            ("<!DOCTYPE a [\u0085<!ENTITY e '&#1;&#x001f;'>\u0085<!X>]><a/>", (3, 1)),
+                            ("<!DOCTYPE a [<!ENTITY e '&#x001f;'><!X>]><a/>", (1, 57))):
             self.assertEqual(self.fault(self.HEAD + text)[:2], place, text)
 
     def test_pieces(self):
@@ -409,7 +410,8 @@ class LoadedDtd(Converted):
         text = "<?xml version='1.{}'?><!DOCTYPE a {}[<!ENTITY g SYSTEM '{}'>]><a>&{};</a>"
         for version, external, file, name, wanted in (
                 ("1", "", "old.xml", "g", "v\\nw\\n"), ("1", "", "new.xml", "g", "v\\nw"), ("0", "", "old.xml", "g", "v\\n\u0085w\u2028"),
-                ("0", "", "new.xml", "g", None), ("1", "", "control.xml", "g", None), ("1", "SYSTEM 'e.dtd' ", "-", "f", "v"), ("1", "SYSTEM 'e.dtd' ", "-", "e", None)):
+                ("0", "", "new.xml", "g", None), ("1", "", "control.xml", "g", None), ("1", "SYSTEM 'e.dtd' ", "-", "f", "v"),
+                ("1", "SYSTEM 'e.dtd' ", "-", "e", None)):
             out, errors, status = self.loaded(text.format(version, external, file, name))
             found = (out, status) if wanted else ("outside the profile" in errors, status)
             self.assertEqual(found, (f"(a\n-{wanted}\n)a\n", 0) if wanted else (True, 2), (version, external, file, name, errors))
