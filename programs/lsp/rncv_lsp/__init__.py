@@ -4,3 +4,6 @@ __version__ = "0.9.0"
 
 # The sets of datatypes that a schema may name, as `rncv.compile` takes them. The first is the default.
 DATATYPES = ("xml-schema", "profile")
+
+# How many faults of a document are told: the number where nothing else is said, and the greatest one.
+USUAL_FAULTS, MOST_FAULTS = 20, 1_000

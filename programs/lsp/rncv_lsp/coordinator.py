@@ -6,7 +6,7 @@ import threading
 import time
 from typing import Any, Callable, Dict, List, Optional, Set, Tuple
 
-from rncv_lsp import DATATYPES
+from rncv_lsp import DATATYPES, USUAL_FAULTS
 from rncv_lsp.documents import Document, Documents, uri_of
 from rncv_lsp.findings import INFORMATION, Finding, diagnostic
 from rncv_lsp.jobs import Jobs, start_thread
@@ -29,27 +29,28 @@ SETTLE_SECONDS, SETTLE_LENGTH, MOST_SETTLE_SECONDS, MOST_SETTLES, POLL_SECONDS =
 @dataclasses.dataclass(frozen=True)
 class Task:
     """An XML document to judge: by a schema, or only whether it is well formed. `findings` are about how the document names its schema, and `schema` has the
-    files of that, even if they are refused."""
+    files of that, even if they are refused. `most_faults` are told of it at most."""
 
     document: Document
     outcome: Optional[Outcome] = None
     findings: Tuple[Finding, ...] = ()
     clauses_url: str = ""
     schema: Optional[SchemaSet] = None
+    most_faults: int = USUAL_FAULTS
 
     def is_like(self, other: Optional["Task"]) -> bool:
         """Whether the other task has the same answer."""
         if other is None or self.document is not other.document or self.outcome is not other.outcome:
             return False
-        return self.findings == other.findings and self.clauses_url == other.clauses_url
+        return (self.findings, self.clauses_url, self.most_faults) == (other.findings, other.clauses_url, other.most_faults)
 
 
 class Coordinator:
     """Judges the open documents, and publishes what is found. In the thread that has judged a document `prepare` gets ready what may be asked about it."""
 
-    def __init__(self, documents: Documents, connection: Connection, datatypes: str = DATATYPES[0]) -> None:
+    def __init__(self, documents: Documents, connection: Connection, datatypes: str = DATATYPES[0], most_faults: int = USUAL_FAULTS) -> None:
         self.settings, self.roots = Settings(), ()  # type: Settings, Tuple[str, ...]
-        self._datatypes = datatypes
+        self._datatypes, self._most_faults = datatypes, most_faults
         self._documents, self._connection = documents, connection
         self._publisher = Publisher(connection)
         self._jobs = Jobs(lambda error: connection.log(1, described(error)))
@@ -157,7 +158,8 @@ class Coordinator:
 
     def _put(self, task: Task) -> None:
         """Starts to judge a document, unless that was done for an equal task."""
-        uri, task = task.document.uri, dataclasses.replace(task, clauses_url=self.settings.clauses_url)
+        most_faults = self.settings.most_faults or self._most_faults
+        uri, task = task.document.uri, dataclasses.replace(task, clauses_url=self.settings.clauses_url, most_faults=most_faults)
         self._sets[uri] = task.schema
         if not task.is_like(self._tasks.get(uri)):
             self._tasks[uri] = task
@@ -183,7 +185,7 @@ class Coordinator:
         """What is found in a document. Without the library for XML it is only judged whether the document is well formed."""
         if task.outcome is not None and task.outcome.validator is not None:
             try:
-                return judged(task.document, self._validator(task.document.uri, task.outcome), task.outcome, is_cancelled)
+                return judged(task.document, self._validator(task.document.uri, task.outcome), task.outcome, is_cancelled, task.most_faults)
             except rncv.LibraryError as error:
                 self._report_once(f"rncv-lsp: cannot judge XML by schemas: {error}")
         return well_formed(task.document, is_cancelled)

@@ -6,7 +6,7 @@ import os
 import sys
 from typing import Any
 
-from rncv_lsp import DATATYPES
+from rncv_lsp import DATATYPES, MOST_FAULTS, USUAL_FAULTS
 from rncv_lsp.versions import shown_version
 
 # The threads that judge give way to the one that reads messages after this time.
@@ -52,6 +52,13 @@ def parse_arguments(parser: argparse.ArgumentParser) -> argparse.Namespace:
         raise
 
 
+def faults_wanted(words: str) -> int:
+    """The number that an argument says."""
+    if not (words.isascii() and words.isdigit() and 1 <= int(words[:9]) <= MOST_FAULTS):
+        raise argparse.ArgumentTypeError(f"wants a number from 1 to {MOST_FAULTS}, and not {words!r}")
+    return int(words)
+
+
 def main() -> None:
     """Runs the server, and ends the process with its status."""
     parser = argparse.ArgumentParser(prog="rncv-lsp", description=DESCRIPTION)
@@ -59,6 +66,8 @@ def main() -> None:
     parser.add_argument("--stdio", action="store_true", help="use the standard streams (it always does)")
     parser.add_argument("--datatypes", choices=DATATYPES, default=DATATYPES[0],
                         help="the datatypes that a schema may name, unless the client has a setting: xml-schema (the default), or the six of the profile")
+    parser.add_argument("--max-faults", type=faults_wanted, default=USUAL_FAULTS, metavar="N",
+                        help=f"tell N faults of an invalid document at most: the first, and hints about others (else {USUAL_FAULTS})")
     given = parse_arguments(parser)
     try:
         from rncv_lsp.server import Server
@@ -72,7 +81,7 @@ def main() -> None:
     sys.stdout = sys.stderr
     sys.setswitchinterval(SWITCH_SECONDS)
     try:
-        status = Server(source, sink, given.datatypes).run()
+        status = Server(source, sink, given.datatypes, given.max_faults).run()
     except KeyboardInterrupt:
         status = 130
     except OSError as error:

@@ -4,7 +4,7 @@ from __future__ import annotations
 import os
 from typing import Any, BinaryIO, List, Optional
 
-from rncv_lsp import DATATYPES
+from rncv_lsp import DATATYPES, USUAL_FAULTS
 from rncv_lsp.coordinator import Coordinator
 from rncv_lsp.documents import Documents, new_document, path_of
 from rncv_lsp.framing import FramingFault, MessageReader
@@ -26,11 +26,11 @@ class Exit(BaseException):
 class Server:
     """One client's server. `run` reads its messages until it ends."""
 
-    def __init__(self, source: BinaryIO, sink: BinaryIO, datatypes: str = DATATYPES[0]) -> None:
+    def __init__(self, source: BinaryIO, sink: BinaryIO, datatypes: str = DATATYPES[0], most_faults: int = USUAL_FAULTS) -> None:
         self._reader = MessageReader(source)
         self._connection = Connection(sink)
         self._documents = Documents()
-        self._coordinator = Coordinator(self._documents, self._connection, datatypes)
+        self._coordinator = Coordinator(self._documents, self._connection, datatypes, most_faults)
         self._answers = XmlAnswers(self._documents, self._coordinator)
         self._schemas = SchemaRequests(self._documents, lambda: self._coordinator.settings.datatypes or datatypes)
         self._parts = (self._schemas, self._answers)

@@ -7,7 +7,7 @@ import os
 import re
 from typing import Any, List, Optional, Pattern, Tuple
 
-from rncv_lsp import DATATYPES
+from rncv_lsp import DATATYPES, MOST_FAULTS
 from rncv_lsp.documents import path_of
 
 GLOB = re.compile(r"(?P<folders>\*\*/)|(?P<all>\*\*)|(?P<some>\*)|(?P<one>\?)|(?P<set>\[[^]/]+\])|\{(?P<either>[^{}]*)\}|(?P<letter>.)", re.S)
@@ -24,11 +24,12 @@ class SchemaRule:
 
 @dataclasses.dataclass(frozen=True)
 class Settings:
-    """The settings. Without `datatypes` the set is that of the command line."""
+    """The settings. Without `datatypes` the set is that of the command line, and so is the number without `most_faults`."""
 
     schemas: Tuple[SchemaRule, ...] = ()
     clauses_url: str = ""
     datatypes: str = ""
+    most_faults: int = 0
 
 
 def settings_of(value: Any) -> Tuple[Settings, List[str]]:
@@ -48,7 +49,17 @@ def settings_of(value: Any) -> Tuple[Settings, List[str]]:
     if datatypes and datatypes not in DATATYPES:
         faults.append(f"the setting datatypes is none of {', '.join(DATATYPES)}")
         datatypes = ""
-    return Settings(tuple(rule for rule in rules if rule is not None), url, datatypes), faults
+    return Settings(tuple(rule for rule in rules if rule is not None), url, datatypes, most_faults_of(section.get("maxFaults"), faults)), faults
+
+
+def most_faults_of(value: Any, faults: List[str]) -> int:
+    """The setting `maxFaults`; 0 if there is none. If the value is not such a number, adds a fault and returns 0."""
+    if value is None:
+        return 0
+    if isinstance(value, int) and not isinstance(value, bool) and 1 <= value <= MOST_FAULTS:
+        return value
+    faults.append(f"the setting maxFaults is no number from 1 to {MOST_FAULTS}")
+    return 0
 
 
 def rule_of(value: Any, faults: List[str]) -> Optional[SchemaRule]:

@@ -27,10 +27,11 @@ NOTE = re.compile(r"(\d+):(\d+): note: (.*)", re.S)
 PAGE = ", see docs/use/CLAUSES.md"
 
 
-def judged(document: Document, validator: rncv.Validator, outcome: Outcome, is_cancelled: Cancelled) -> List[Finding]:
+def judged(document: Document, validator: rncv.Validator, outcome: Outcome, is_cancelled: Cancelled, most_faults: int) -> List[Finding]:
     """What is found in a document that has a schema. The lock of the interpreter is free, except while the next bytes are made."""
-    verdict = validator.validate_xml(Source(document.lines, is_cancelled))
+    verdict = validator.validate_xml(Source(document.lines, is_cancelled), hints=most_faults - 1)
     found = [wrong(document, each) for each in (verdict, verdict.earlier) if each is not None and not each.valid]
+    found += [hint(document, each) for each in verdict.hints]
     found += [note(document, place, what) for place, what in notes_of(verdict)]
     if outcome.copy:
         root = instructions(document.lines, lambda *instruction: None)
@@ -56,6 +57,11 @@ def wrong(document: Document, verdict: rncv.XmlVerdict) -> Finding:
     code = f"P{verdict.clause}" if verdict.clause else verdict.kind
     title = rncv.clause_title("P", verdict.clause) or ""
     return Finding(*ends, verdict.message.removesuffix(PAGE), code, title)
+
+
+def hint(document: Document, verdict: rncv.XmlVerdict) -> Finding:
+    """The finding for a further fault of a document. It may be one that the first fault has caused, so it is no error."""
+    return Finding(*invalid_span(document, (verdict.line, verdict.column), verdict), verdict.message, "hint", severity=INFORMATION)
 
 
 def notes_of(verdict: rncv.XmlVerdict) -> Iterator[Tuple[Place, str]]:

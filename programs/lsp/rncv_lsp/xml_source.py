@@ -51,11 +51,27 @@ def pieces_of(lines: Text) -> Iterator[bytes]:
 
 class Source(io.RawIOBase):
     """The bytes of a document. They are made as they are read, so that judging begins and stops at once. Reading raises GivenUp once the document has
-    changed."""
+    changed. It can go back to its beginning, and nowhere else."""
 
     def __init__(self, lines: Text, is_cancelled: Cancelled) -> None:
         super().__init__()
-        self._pieces, self._left, self._is_cancelled = pieces_of(lines), b"", is_cancelled
+        self._lines, self._is_cancelled = lines, is_cancelled
+        self._pieces, self._left, self._at = pieces_of(lines), b"", 0
+
+    def seekable(self) -> bool:
+        """Whether it can go back."""
+        return True
+
+    def tell(self) -> int:
+        """How many bytes were read."""
+        return self._at
+
+    def seek(self, offset: int, whence: int = io.SEEK_SET) -> int:
+        """Goes back to the beginning."""
+        if offset != 0 or whence != io.SEEK_SET:
+            raise io.UnsupportedOperation("only back to the beginning")
+        self._pieces, self._left, self._at = pieces_of(self._lines), b"", 0
+        return 0
 
     def read(self, size: int = -1) -> bytes:
         """The next bytes."""
@@ -69,6 +85,7 @@ class Source(io.RawIOBase):
         data = b"".join(pieces)
         taken = data if wanted is None else data[:wanted]
         self._left = data[len(taken):]
+        self._at += len(taken)
         return taken
 
 

@@ -164,8 +164,9 @@ class Verdicts(unittest.TestCase):
                 if self.chosen.random() < 0.2:
                     cut = self.chosen.randrange(len(text))
                     text = text[:cut] + self.chosen.choice('<>&"x') + text[cut + 1:]
-                found = judged(Document("u", "/u", "/u", "xml", 1, Text(text)), validator, outcome, lambda: False)
-                codes = [finding.code for finding in found]
+                found = judged(Document("u", "/u", "/u", "xml", 1, Text(text)), validator, outcome, lambda: False, 20)
+                codes = [finding.code for finding in found if finding.code != "hint"]
+                kinds.update(finding.code for finding in found if finding.code == "hint")
                 lines = []
                 try:
                     convert(io.BytesIO(text.encode("utf-8")), lines.append)
@@ -176,7 +177,8 @@ class Verdicts(unittest.TestCase):
                     self.assertIn(codes[0], ("malformed", "outside"), text)
                 self.assertTrue(all(0 <= finding.start <= finding.end <= len(text) for finding in found), text)
                 kinds.update([wanted, *(" ".join(finding.message.split()[:3]) for finding in found if finding.code == "invalid")])
-        self.assertGreaterEqual(kinds, {"valid", "invalid", "no document", "invalid: attribute y", "invalid: text is", "invalid: the text", "invalid: <b> is"})
+        self.assertGreaterEqual(kinds, {"valid", "invalid", "hint", "no document",
+                                        "invalid: attribute y", "invalid: text is", "invalid: the text", "invalid: <b> is"})
 
 
 class Broken:

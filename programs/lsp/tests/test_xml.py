@@ -30,8 +30,8 @@ class Documents(WithServer):
         return [(reported["code"], span(reported), reported["message"]) for reported in self.client.found(uri, self.count)]
 
     def one(self, text, name="a.xml"):
-        """The only finding in a document."""
-        found = self.found(MODEL + text, name)
+        """The only finding in a document, but for hints."""
+        found = [each for each in self.found(MODEL + text, name) if each[0] != "hint"]
         self.assertEqual(len(found), 1, found)
         return found[0]
 
@@ -56,6 +56,34 @@ class Documents(WithServer):
                 ("<other/>", (1, 0, 1, 6), "<other> is not allowed here; expected <letter>"),
                 ("<p:letter xmlns:p='u'/>", (1, 0, 1, 9), "<p:letter> is not allowed here; expected <letter>")):
             self.assertEqual(self.one(text), ("invalid", place, f"invalid: {words}"), text)
+
+    def test_hints(self):
+        """Further faults are informations, each at what it is about."""
+        text = "<letter to='c'>\n<title>1</title><body>\n<b/></body>\n<last at='1'>\n<x>\u00e9<y/></x>\U0001F600</last></letter>"
+        first = ("invalid", (1, 8, 1, 14), 'invalid: attribute to of <letter> is wrong ("c"); expected "a" or "b"')
+        hints = [("hint", (3, 0, 3, 2), "hint: <b> is not allowed here; expected text"), ("hint", (4, 6, 4, 12), "hint: attribute at is not allowed in <last>"),
+                 ("hint", (5, 4, 5, 6), "hint: <y> is not allowed here; expected text"),
+                 ("hint", (5, 12, 5, 14), 'hint: text is not allowed in <last> ("\U0001F600")')]
+        found = self.found(MODEL + text)
+        self.assertEqual(found[0], first)
+        self.assertEqual([each[:2] for each in found[1:]], [each[:2] for each in hints], found)
+        self.assertEqual([reported["severity"] for reported in self.client.diagnostics[self.uri("a.xml")]], [1, 3, 3, 3, 3])
+        for most in (3, 1):
+            self.client.notify("workspace/didChangeConfiguration", settings={"rncv": {"maxFaults": most}})
+            self.assertEqual(self.client.codes(self.uri("a.xml"), ["invalid", "hint", "hint"][:most])[0]["code"], "invalid")
+        self.client.notify("workspace/didChangeConfiguration", settings={"rncv": {"maxFaults": 1001}})
+        self.client.codes(self.uri("a.xml"), ["invalid", "hint", "hint", "hint", "hint"])
+        logged = [message["params"]["message"] for message in self.client.other if message.get("method") == "window/logMessage"]
+        self.assertEqual(logged, ["rncv-lsp: the setting maxFaults is no number from 1 to 1000"])
+        self.assertEqual(self.found("<?xml-model href='s.rnc'?><letter to='c'><b></letter>")[0][0], "malformed")
+
+    def test_the_most_faults(self):
+        client = self.started("--max-faults", "2")
+        client.initialize(None, self.folder)
+        client.open(self.uri("b.xml"), MODEL + "<letter to='c'><title>1</title><body><b/></body><last><y/></last></letter>")
+        self.assertEqual([reported["code"] for reported in client.found(self.uri("b.xml"))], ["invalid", "hint"])
+        for words in ("0", "1001", "x", ""):
+            self.assertEqual(self.started("--max-faults", words).ended(), 2, words)
 
     def test_ids(self):
         """The schema is a copy as rncv-profile writes it of one with the datatypes ID and IDREF."""

@@ -232,15 +232,20 @@ class Validator:
                     break
             return begun.finish()
 
-    def validate_xml(self, document: Union[Path, Bytes, BinaryIO], ids: bool = True) -> XmlVerdict:
+    def validate_xml(self, document: Union[Path, Bytes, BinaryIO], ids: bool = True, hints: int = 0) -> XmlVerdict:
         """Judges an XML document: the path of a file, bytes, or a binary file. A binary file is read from its position to its end, in pieces of 64 KiB.
 
         If the schema names the datatypes ID, IDREF and IDREFS, or is a copy by `rncv-profile` of one that does, each ID has to be there once, and what refers
         to one has to find it. `ids=False` leaves that out. It is not proved. If RELAX NG DTD Compatibility does not allow the schema, a note says why nothing is checked.
 
+        An invalid document has its first fault as verdict. With `hints` it is read once more, and the verdict has up to so many hints at others, as those of
+        `rncv-xml`; they are not proved. A binary file has to be one that can go back to its position, else there are none.
+
         OSError: the file cannot be read. An exception from a binary file goes to the caller, and the validator can judge the next document. LibraryError:
         there is no library for XML. RuntimeError: another document is in progress. MemoryError: out of memory.
         """
+        if hints < 0:
+            raise ValueError(f"hints is how many there are at most, and not {hints}")
         with self._lock:
             if self._closed or self._document is not None:
                 self._want_free()
@@ -248,7 +253,7 @@ class Validator:
             self._document = _in_progress
         try:
             judge.want_ids(bool(ids))
-            verdict = judge.of_bytes(document) if type(document) is bytes else _judged_xml(judge, document)
+            verdict = judge.of_bytes(document) if type(document) is bytes and not hints else _judged_xml(judge, document, hints)
         finally:
             with self._lock:
                 self._document = None
@@ -960,15 +965,30 @@ def _in_progress() -> bool:
     return True
 
 
-def _judged_xml(judge: _xml.Judge, document: Any) -> XmlVerdict:
-    """The verdict on an XML document, in whatever form it was given."""
+def _judged_xml(judge: _xml.Judge, document: Any, hints: int) -> XmlVerdict:
+    """The verdict on an XML document, in whatever form it was given, with hints if some are wanted."""
+    begin: Optional[int] = None
     if isinstance(document, (str, os.PathLike)):
-        return judge.of_path(_name_of(document))
-    if not isinstance(document, (bytes, bytearray, memoryview)) and hasattr(document, "read"):
-        return judge.of_file(document)
-    if _is_buffer(document):
-        return judge.of_bytes(_whole(document))
-    raise TypeError(f"an XML document is a path, bytes or a binary file, and not {type(document).__name__}")
+        document = _name_of(document)
+        verdict = judge.of_path(document)
+    elif not isinstance(document, (bytes, bytearray, memoryview)) and hasattr(document, "read"):
+        begin = _position_of(document) if hints else None
+        verdict = judge.of_file(document)
+    elif _is_buffer(document):
+        document = _whole(document)
+        verdict = judge.of_bytes(document)
+    else:
+        raise TypeError(f"an XML document is a path, bytes or a binary file, and not {type(document).__name__}")
+    found = judge.hints_of(document, begin, hints) if hints and verdict.kind == "invalid" else ()
+    return dataclasses.replace(verdict, hints=found) if found else verdict
+
+
+def _position_of(file: Any) -> Optional[int]:
+    """The position of a binary file, if it can go back there."""
+    try:
+        return file.tell() if file.seekable() else None
+    except (AttributeError, OSError):
+        return None
 
 
 @functools.lru_cache(maxsize=None)

@@ -7,7 +7,7 @@ import dataclasses
 import io
 import os
 import stat
-from collections.abc import Generator, Sequence
+from collections.abc import Callable, Generator, Sequence
 from typing import Any, NamedTuple, Optional
 
 # How much is read at once from a file.
@@ -32,7 +32,7 @@ class XmlVerdict:
     place. `at` says what is at the place of an invalid document: "element", "attribute", "text" or "end" (something is missing before an end tag); None if
     that is not known. `name` is that of the element or the attribute, or the first characters of the text. `message` is what `rncv-xml` prints after the
     place. `notes` say what is left out of the document, such as an external DTD: each is a line with the place. `earlier` says where a document that is
-    malformed or outside was invalid before that place, if it was.
+    malformed or outside was invalid before that place, if it was. `hints` are verdicts on further faults of an invalid document, if they were asked for.
 
     `reason`, `expected`, `attribute` and `datatype` are those of `rncv-xml --format json` for an invalid document: a word for what is wrong, what could have
     been there, the attribute that is wrong or those that are missing, and the datatype that a value or a text should have had. They are None if that is not
@@ -52,6 +52,7 @@ class XmlVerdict:
     expected: tuple[str, ...] = dataclasses.field(default=(), compare=False, repr=False)
     attribute: Optional[str] = dataclasses.field(default=None, compare=False, repr=False)
     datatype: Optional[str] = dataclasses.field(default=None, compare=False, repr=False)
+    hints: tuple[XmlVerdict, ...] = dataclasses.field(default=(), compare=False, repr=False)
 
     @property
     def valid(self) -> bool:
@@ -150,6 +151,8 @@ def typed(library: ctypes.CDLL) -> ctypes.CDLL:
         ("rncv_xml_judge_file", [pointer, ctypes.c_char_p, pointer], status),
         ("rncv_xml_judge_bytes", [pointer, ctypes.c_char_p, size, pointer], status),
         ("rncv_xml_judge_by", [pointer, _Read, pointer, pointer], status),
+        ("rncv_xml_judge_again", [pointer, _Read, pointer, size, pointer], status),
+        ("rncv_xml_judge_hint", [pointer, size, pointer], status),
     ]:
         call = getattr(library, name)
         call.argtypes, call.restype = kinds, kind
@@ -275,20 +278,52 @@ class Judge:
 
     def of_file(self, file: Any) -> XmlVerdict:
         """The verdict on a binary file, from its position to its end."""
+        has_ended, status = self._read(file, lambda read: self._library.rncv_xml_judge_by(self._to_handle, read, None, self._to_answer))
+        verdict = self._verdict(status)
+        if verdict.valid and not has_ended:
+            raise RuntimeError("rncv: the file was not read to its end")
+        return verdict
+
+    @staticmethod
+    def _read(file: Any, call: Callable[[Any], int]) -> tuple[bool, int]:
+        """Whether a call has read a file to its end, and the status of the call. It gets the function that reads."""
         source = _Source(file)
         pieces = source.pieces()
         next(pieces)
-        status = self._library.rncv_xml_judge_by(self._to_handle, _Read(pieces.send), None, self._to_answer)
+        status = call(_Read(pieces.send))
         error, source.error = source.error, None
         if error is not None:
             try:
                 raise error
             finally:
                 del error
-        verdict = self._verdict(status)
-        if verdict.valid and not source.has_ended:
-            raise RuntimeError("rncv: the file was not read to its end")
-        return verdict
+        return source.has_ended, status
+
+    def hints_of(self, document: Any, begin: Optional[int], most: int) -> tuple[XmlVerdict, ...]:
+        """Further faults of the document that was judged last: bytes, a path, or a binary file, which was read from this position. None: it cannot be read
+        again."""
+        if isinstance(document, bytes):
+            return self._hints(io.BytesIO(document), most)
+        if isinstance(document, (str, os.PathLike)):
+            if not stat.S_ISREG(os.stat(document).st_mode):
+                return ()
+            with open(document, "rb", buffering=0) as file:
+                return self._hints(file, most)
+        if begin is None:
+            return ()
+        document.seek(begin)
+        return self._hints(document, most)
+
+    def _hints(self, file: Any, most: int) -> tuple[XmlVerdict, ...]:
+        """Further faults of the document in a file, from its position on."""
+        count = ctypes.c_size_t()
+        _, status = self._read(file, lambda read: self._library.rncv_xml_judge_again(self._to_handle, read, None, most, ctypes.byref(count)))
+        _want_done(status)
+        return tuple(self._hint(index) for index in range(count.value))
+
+    def _hint(self, index: int) -> XmlVerdict:
+        """One of the hints that were found."""
+        return self._verdict(self._library.rncv_xml_judge_hint(self._to_handle, index, self._to_answer))
 
     def _verdict(self, status: int) -> XmlVerdict:
         """What the library answers."""

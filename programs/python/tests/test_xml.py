@@ -140,6 +140,49 @@ class Judged(unittest.TestCase):
         self.validator = rncv.compile(SCHEMA)
         self.addCleanup(self.validator.close)
 
+    def test_hints(self):
+        document = b"<a x='2'>\n<b>three</b>\n<c/><b/></a>"
+        told = ['2:4: hint: the text of <b> is wrong ("three"); expected "two"', "3:1: hint: <c> is not allowed here; expected <b> or the end of <a>",
+                '3:5: hint: <b> ends too early: expected "two"']
+        self.path.write_bytes(document)
+        for form in (document, bytearray(document), self.path, str(self.path), io.BytesIO(document), Small(document), open(self.path, "rb")):
+            verdict = self.validator.validate_xml(form, hints=20)
+            self.assertEqual((verdict.kind, verdict.attribute, [str(each) for each in verdict.hints]), ("invalid", "x", told), form)
+            if hasattr(form, "close"):
+                form.close()
+        first = verdict.hints[0]
+        self.assertEqual((first.kind, first.at, first.name, first.reason, first.expected), ("invalid", "text", "three", "text-value", ('"two"',)))
+        self.assertEqual([len(self.validator.validate_xml(document, hints=most).hints) for most in (0, 1, 2, 999_999)], [0, 1, 2, 3])
+        self.assertEqual(self.validator.validate_xml(document).hints, ())
+        for other in (GOOD, b"<a x='2'><b></a>", b"<a x='2'>&e;</a>"):
+            self.assertEqual(self.validator.validate_xml(other, hints=20).hints, (), other)
+        self.assertRaisesRegex(ValueError, "not -1", self.validator.validate_xml, document, hints=-1)
+
+    def test_hints_of_a_file(self):
+        """It is read again from the position that it had, if it can go back."""
+        document = b"<a x='2'><b>three</b></a>"
+        file = io.BytesIO(b"before" + document)
+        file.seek(6)
+        self.assertEqual([str(each) for each in self.validator.validate_xml(file, hints=20).hints], ['1:13: hint: the text of <b> is wrong ("three"); expected "two"'])
+
+        class Stream(io.BytesIO):
+            """A file that cannot go back."""
+
+            def seekable(self):
+                return False
+
+        verdict = self.validator.validate_xml(Stream(document), hints=20)
+        self.assertEqual((verdict.kind, verdict.hints), ("invalid", ()))
+
+        class Once(io.BytesIO):
+            """A file that fails when it is read again."""
+
+            def seek(self, *place):
+                raise OSError("gone")
+
+        self.assertRaisesRegex(OSError, "gone", self.validator.validate_xml, Once(document), hints=20)
+        self.assertTrue(self.validator.validate_xml(GOOD, hints=20))
+
     def judged(self, document, validator=None):
         """The verdict on a document. Wants the same for a path, for files and for each kind of bytes."""
         validator = validator or self.validator

@@ -21,8 +21,9 @@
  * Handles. Start a judge as RNCV_XML_NOTHING, files as RNCV_XML_NO_FILES and a fault as RNCV_XML_NO_FAULT, and free each by its function. After that it may
  * be used again. Freeing it twice does nothing. Do not change what is in it, and do not copy it and use both copies.
  *
- * Ownership. Each function copies what it keeps. The texts of an answer belong to its judge, and are there until the next call on that judge. Texts end in
- * a zero. They are UTF-8 where the names of files are.
+ * Ownership. Each function copies what it keeps. The texts of an answer belong to its judge, and are there until the next call on that judge, except calls
+ * of rncv_xml_judge_hint; those of the answer for a document stay after rncv_xml_judge_again too. Texts end in a zero. They are UTF-8 where the names of
+ * files are.
  *
  * Threads. There is no global state. Calls on different handles may run in different threads at the same time. Calls on one handle may not: give each
  * thread a judge of its own by rncv_xml_judge_share. A judge may move to another thread between two calls, if a lock, the start of a thread, a join, or an
@@ -226,6 +227,19 @@ void rncv_xml_judge_free(rncv_xml_judge *judge);
 int32_t rncv_xml_judge_file(rncv_xml_judge *judge, const char *path, rncv_xml_answer *answer);
 int32_t rncv_xml_judge_bytes(rncv_xml_judge *judge, const void *bytes, size_t length, rncv_xml_answer *answer);
 int32_t rncv_xml_judge_by(rncv_xml_judge *judge, rncv_xml_read read, void *context, rncv_xml_answer *answer);
+
+/* The most hints about a document. */
+#define RNCV_XML_MOST_HINTS 999
+
+/* Looks for further faults of the document that the judge judged last, if it is invalid by the schema: `read` gives it once more, from its beginning.
+ * `count` becomes how many hints there are: `most` of them, or RNCV_XML_MOST_HINTS, at most. They are those of rncv-xml (docs/use/XML.md), outside the
+ * proof. If the document was valid, malformed, outside, or invalid by its IDs, nothing is read, and there are none. If `read` fails, those before that are
+ * there; of another document they mean nothing. If memory runs out, there are fewer. `context` may be NULL. */
+int32_t rncv_xml_judge_again(rncv_xml_judge *judge, rncv_xml_read read, void *context, size_t most, size_t *count);
+
+/* Tells one of the hints that rncv_xml_judge_again found, in the order of their places, the first one with the index 0: as for an invalid document, with a
+ * message that begins with `hint: `. RNCV_MISUSE: also if there is no such hint. */
+int32_t rncv_xml_judge_hint(rncv_xml_judge *judge, size_t index, rncv_xml_answer *answer);
 
 #ifdef __cplusplus
 }

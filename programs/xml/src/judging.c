@@ -50,7 +50,6 @@ struct judging {
     struct finding found; /* where the document is invalid, if that is known */
     rncv_verdict verdict;
     uint64_t number; /* of the starts and ends that were passed: it is the place of the last one for the library */
-    uint64_t found_number; /* of the one at which the document is invalid */
     struct step steps[MOST_STEPS + 1]; /* those that the library was not asked about, .. */
     struct step *next; /* .. and the one that comes next */
     size_t open;         /* how many elements are open before the first of them */
@@ -80,6 +79,15 @@ void judge_close(struct judge *judge) {
     second_free(judge->second);
 }
 
+static void hints_free(struct answer *answer) {
+    for (size_t at = 0; at < answer->hint_count; at++) {
+        answer_free(&answer->hints[at]);
+    }
+    free(answer->hints);
+    answer->hints = NULL;
+    answer->hint_count = 0;
+}
+
 void answer_free(struct answer *answer) {
     bytes_free(&answer->name);
     bytes_free(&answer->message);
@@ -90,10 +98,7 @@ void answer_free(struct answer *answer) {
         bytes_free(&answer->notes[at].what);
     }
     free(answer->notes);
-    for (size_t at = 0; at < answer->hint_count; at++) {
-        answer_free(&answer->hints[at]);
-    }
-    free(answer->hints);
+    hints_free(answer);
     if (answer->earlier != NULL) {
         answer_free(answer->earlier);
         free(answer->earlier);
@@ -304,7 +309,7 @@ static void look(struct judging *judging) {
     judging->usual_depth = SIZE_MAX;
     judging->found.is_there = true;
     judging->found.is_lost = since <= before || since > judging->number; /* the place of another one is not known */
-    judging->found_number = judging->found.is_lost ? 0 : since;
+    judging->judge->found_number = judging->found.is_lost ? 0 : since;
     if (!judging->found.is_lost && !note_finding(judging, &judging->steps[since - before - 1])) {
         out_of_memory(judging);
     }
@@ -665,14 +670,30 @@ static void read_named(struct judging *judging, const char *name) {
     }
 }
 
-/* Adds further faults to the answer, if they are wanted and the document can be read once more. */
+/* Whether the document that was judged last may have further faults, which are wanted. */
+static bool is_hint_due(const struct judge *judge, const struct answer *answer) {
+    const struct shared *shared = judge->shared;
+    return shared->alone != NULL && shared->most_faults > 1 && answer->verdict == VERDICT_INVALID && judge->found_number > 0;
+}
+
+/* Adds further faults to the answer, if the document can be read once more. */
 static void add_hints(struct judging *judging, const char *name) {
     const struct shared *shared = judging->judge->shared;
-    bool is_due = shared->alone != NULL && judging->answer->verdict == VERDICT_INVALID && judging->found_number > 0;
-    if (is_due && source_rewind(&judging->source)) {
+    if (is_hint_due(judging->judge, judging->answer) && source_rewind(&judging->source)) {
         const struct byte_source again = {source_read, &judging->source, shared->loads_dtd ? beside(name) : NULL};
-        second_reading(judging->judge, &again, judging->found_number, judging->answer);
+        second_reading(judging->judge, &again, judging->judge->found_number, judging->answer);
     }
+}
+
+/* Forgets what was kept of another document. */
+static void forget(struct judge *judge) {
+    judge->found_number = 0;
+    scope_clear(&judge->scope);
+    if (judge->text.failed) {
+        bytes_free(&judge->text);
+    }
+    bytes_clear(&judge->text);
+    id_check_begin(&judge->ids);
 }
 
 /* Judges what the source gives, or the document of this name if there is no source. */
@@ -688,12 +709,7 @@ static void judge_either(struct judge *judge, const struct byte_source *given, c
     judging.has_ids = judge->shared->ids != NULL;
     judging.is_usual = !judging.has_ids;
     judging.usual_depth = judging.has_ids ? SIZE_MAX : 0;
-    scope_clear(&judge->scope);
-    if (judge->text.failed) {
-        bytes_free(&judge->text);
-    }
-    bytes_clear(&judge->text);
-    id_check_begin(&judge->ids);
+    forget(judge);
     if (rncv_events_begin(&judge->schema) != RNCV_DONE) {
         out_of_memory(&judging);
     } else if (given != NULL) {
@@ -722,4 +738,11 @@ void judge_document(struct judge *judge, const char *name, struct answer *answer
 
 void judge_by(struct judge *judge, const struct byte_source *source, struct answer *answer) {
     judge_either(judge, source, NULL, answer);
+}
+
+void judge_again(struct judge *judge, const struct byte_source *source, struct answer *answer) {
+    hints_free(answer);
+    if (is_hint_due(judge, answer)) {
+        second_reading(judge, source, judge->found_number, answer);
+    }
 }

@@ -114,6 +114,7 @@ struct judge {
     struct bytes text; /* the first characters of texts directly before the last starts and ends, if they came in pieces */
     struct id_check ids;
     struct second *second; /* what hints need, once a document was invalid; NULL: nothing yet */
+    uint64_t found_number; /* of the start or end at which the last document was invalid by the schema; 0: it was not, or that is not known */
     struct open_name open[MOST_NAMED]; /* the elements that are open, the root first; those behind them have ended */
 };
 
@@ -125,6 +126,8 @@ void judge_close(struct judge *judge);
 void judge_document(struct judge *judge, const char *name, struct answer *answer);
 /* Judges the document that the source gives. */
 void judge_by(struct judge *judge, const struct byte_source *source, struct answer *answer);
+/* Adds hints to the answer for the document that was judged last, which the source gives once more. Those that it had are freed. */
+void judge_again(struct judge *judge, const struct byte_source *source, struct answer *answer);
 void answer_free(struct answer *answer);
 
 /* The word for what is wrong; empty: it is not known. */

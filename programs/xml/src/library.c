@@ -1,6 +1,7 @@
 /* The library over the parts of rncv-xml. */
 #include "rncv_xml.h"
 
+#include "alone_schema.h"
 #include "clause_page.h"
 #include "judging.h"
 #include "paths.h"
@@ -24,6 +25,8 @@ struct common {
     struct id_types *ids; /* the attributes with an ID-type; NULL: there are none */
     struct bytes unsound; /* why they are not checked; empty if they are */
     uint32_t datatypes;   /* that the schema was compiled with */
+    struct alone_schemas alone; /* for hints, .. */
+    bool has_alone;       /* .. if they are there */
 };
 
 /* What a judge's handle holds. */
@@ -65,12 +68,15 @@ static void common_let_go(struct common *common) {
     if (common == NULL || atomic_fetch_sub(&common->owners, 1) > 1) {
         return;
     }
+    if (common->has_alone) {
+        alone_schemas_close(&common->alone);
+    }
     schema_ids_free(common->ids);
     bytes_free(&common->unsound);
     free(common);
 }
 
-/* Reads the ID-types of a schema. NULL: out of memory. */
+/* Begins with a schema, and reads its ID-types. NULL: out of memory. */
 static struct common *common_of(rncv_schema *schema, uint32_t datatypes, const struct schema_files *files) {
     struct common *common = calloc(1, sizeof *common);
     if (common == NULL) {
@@ -78,6 +84,7 @@ static struct common *common_of(rncv_schema *schema, uint32_t datatypes, const s
     }
     atomic_init(&common->owners, 1);
     common->datatypes = datatypes;
+    common->has_alone = alone_schemas_open(&common->alone, datatypes);
     if (!schema_ids_read(schema, files, &common->ids, &common->unsound)) {
         common_let_go(common);
         return NULL;
@@ -109,6 +116,7 @@ static int32_t hold(rncv_schema *schema, struct common *common, rncv_xml_judge *
     held->shared.wants_earlier = true;
     held->shared.ids = common->ids;
     held->shared.datatypes = common->datatypes;
+    held->shared.alone = common->has_alone ? &common->alone : NULL;
     held->shared.tick = no_tick;
     atomic_init(&held->shared.bytes_read, 0);
     int32_t status = rncv_schema_share(schema, &held->shared.schema);
@@ -543,10 +551,18 @@ static const char *joined_notes(struct held *held) {
     return bytes_text(&held->notes);
 }
 
+static int32_t stands_of(const struct answer *answer) {
+    static const int32_t places[] = {RNCV_XML_AT_UNKNOWN, RNCV_XML_AT_ELEMENT, RNCV_XML_AT_ATTRIBUTE, RNCV_XML_AT_TEXT, RNCV_XML_AT_END};
+    return places[answer->stands];
+}
+
+static const char *expected_of(const struct answer *answer) {
+    return answer->expected_count == 0 ? "" : answer->expected.data;
+}
+
 /* The answer for the caller, and the status. Without memory for its texts there is no answer. */
 static int32_t give_answer(struct held *held, int error, rncv_xml_answer *answer) {
     static const int32_t verdicts[] = {RNCV_XML_VALID, RNCV_XML_INVALID, RNCV_XML_MALFORMED, RNCV_XML_OUTSIDE, RNCV_XML_FAILED};
-    static const int32_t places[] = {RNCV_XML_AT_UNKNOWN, RNCV_XML_AT_ELEMENT, RNCV_XML_AT_ATTRIBUTE, RNCV_XML_AT_TEXT, RNCV_XML_AT_END};
     struct answer *own = &held->answer;
     const char *name = bytes_text(&own->name);
     const char *message = bytes_text(&own->message);
@@ -562,11 +578,11 @@ static int32_t give_answer(struct held *held, int error, rncv_xml_answer *answer
     if (is_lost || (own->verdict == VERDICT_FAILED && (message[0] == '\0' || strcmp(message, "out of memory") == 0))) {
         return RNCV_MEMORY;
     }
-    *answer = (rncv_xml_answer){verdicts[own->verdict], places[own->stands], own->clause, error, own->place.line, own->place.column,
+    *answer = (rncv_xml_answer){verdicts[own->verdict], stands_of(own), own->clause, error, own->place.line, own->place.column,
                                 name, message, notes, own->note_count + (held->common->unsound.length > 0), RNCV_XML_AT_UNKNOWN, 0, 0, "", "",
-                                reason_word(own->reason), attribute, datatype, own->expected_count == 0 ? "" : own->expected.data, own->expected_count};
+                                reason_word(own->reason), attribute, datatype, expected_of(own), own->expected_count};
     if (own->earlier != NULL) {
-        answer->earlier_at = places[own->earlier->stands];
+        answer->earlier_at = stands_of(own->earlier);
         answer->earlier_line = own->earlier->place.line;
         answer->earlier_column = own->earlier->place.column;
         answer->earlier_name = bytes_text(&own->earlier->name);
@@ -595,11 +611,15 @@ static int32_t judge_reading(struct held *held, const struct byte_source *source
     return give_answer(held, reading->error, answer);
 }
 
+static rncv_xml_answer no_answer(void) {
+    return (rncv_xml_answer){.name = "", .message = "", .notes = "", .earlier_name = "", .earlier_message = "", .reason = "", .attribute = "", .datatype = "",
+                             .expected = ""};
+}
+
 /* Whether a document can be judged. Writes an answer without a verdict. */
 static bool is_ready(rncv_xml_judge *judge, rncv_xml_answer *answer) {
     if (answer != NULL) {
-        *answer = (rncv_xml_answer){.name = "", .message = "", .notes = "", .earlier_name = "", .earlier_message = "",
-                                    .reason = "", .attribute = "", .datatype = "", .expected = ""};
+        *answer = no_answer();
     }
     return answer != NULL && judge != NULL && judge->hidden != NULL && !is_busy(judge);
 }
@@ -639,4 +659,60 @@ int32_t rncv_xml_judge_by(rncv_xml_judge *judge, rncv_xml_read read, void *conte
     }
     struct reading reading = {.file = -1, .read = read, .context = context};
     return judge_reading(judge->hidden, &(struct byte_source){read_given, &reading, NULL}, answer);
+}
+
+/* Drops hints that have no words, since memory ran out for them. */
+static void drop_wordless(struct answer *own) {
+    size_t kept = 0;
+    for (size_t at = 0; at < own->hint_count; at++) {
+        struct answer *hint = &own->hints[at];
+        bytes_text(&hint->name);
+        bytes_text(&hint->message);
+        bytes_text(&hint->attribute);
+        bytes_text(&hint->datatype);
+        if (hint->name.failed || hint->message.failed || hint->attribute.failed || hint->datatype.failed) {
+            answer_free(hint);
+        } else {
+            own->hints[kept++] = *hint;
+        }
+    }
+    own->hint_count = kept;
+}
+
+int32_t rncv_xml_judge_again(rncv_xml_judge *judge, rncv_xml_read read, void *context, size_t most, size_t *count) {
+    struct held *held = judge == NULL ? NULL : judge->hidden;
+    if (held == NULL || held->is_busy || read == NULL || count == NULL) {
+        return RNCV_MISUSE;
+    }
+    struct reading reading = {.file = -1, .read = read, .context = context};
+    held->shared.most_faults = 1 + (most < RNCV_XML_MOST_HINTS ? most : RNCV_XML_MOST_HINTS);
+    held->is_busy = true;
+    judge_again(&held->judge, &(struct byte_source){read_given, &reading, NULL}, &held->answer);
+    held->is_busy = false;
+    drop_wordless(&held->answer);
+    *count = held->answer.hint_count;
+    return RNCV_DONE;
+}
+
+int32_t rncv_xml_judge_hint(rncv_xml_judge *judge, size_t index, rncv_xml_answer *answer) {
+    if (!is_ready(judge, answer)) {
+        return RNCV_MISUSE;
+    }
+    struct answer *own = &((struct held *)judge->hidden)->answer;
+    if (index >= own->hint_count) {
+        return RNCV_MISUSE;
+    }
+    struct answer *hint = &own->hints[index];
+    answer->verdict = RNCV_XML_INVALID;
+    answer->at = stands_of(hint);
+    answer->line = hint->place.line;
+    answer->column = hint->place.column;
+    answer->name = bytes_text(&hint->name);
+    answer->message = bytes_text(&hint->message);
+    answer->reason = reason_word(hint->reason);
+    answer->attribute = bytes_text(&hint->attribute);
+    answer->datatype = bytes_text(&hint->datatype);
+    answer->expected = expected_of(hint);
+    answer->expected_count = hint->expected_count;
+    return RNCV_DONE;
 }

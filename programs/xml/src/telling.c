@@ -96,15 +96,15 @@ static void add_element(struct bytes *to, const struct scope *scope, struct span
     bytes_free(&name);
 }
 
-/* Adds a class of names. */
-static void add_class(struct words *words, const struct wanted_class *class) {
+/* Adds a class of names, which may have exceptions beside those that are written in it. */
+static void add_class(struct words *words, const struct wanted_class *class, bool has_exceptions) {
     struct bytes *to = &words->answer->expected;
     if (class->kind == WANTED_NAME) {
         add_element(to, &words->judge->scope, class->uri, class->local);
     } else {
         bytes_add_text(to, class->kind == WANTED_ANY ? "any element" : class->uri.length == 0 ? "any element without namespace" : "any element of ");
         bytes_add(to, class->uri.data, class->uri.length);
-        bytes_add_text(to, class->excepted == 0 ? "" : " (with exceptions)");
+        bytes_add_text(to, has_exceptions || class->excepted != 0 ? " (with exceptions)" : "");
     }
     end_item(words->answer);
 }
@@ -120,20 +120,23 @@ static void keep_near(struct words *words, struct span name, struct span other, 
     }
 }
 
-/* Whether a class is the name of the element itself: it is expected, and nothing matches it. */
-static bool is_own(const struct words *words, const struct wanted_class *class) {
-    return class->kind == WANTED_NAME && span_equal(class->uri, finding_uri(words->found)) && span_equal(class->local, finding_local(words->found));
+/* Whether a class has the name of the element itself: it is expected, and nothing matches it. */
+static bool has_own(const struct words *words, const struct wanted_class *class) {
+    bool is_inside = class->kind == WANTED_ANY || span_equal(class->uri, finding_uri(words->found));
+    return is_inside && (class->kind != WANTED_NAME || span_equal(class->local, finding_local(words->found)));
 }
 
-/* Adds the classes of elements. With a name, that of an element which is not allowed, one that is nearly the same is kept, and the element itself is left out. */
+/* Adds the classes of elements. With a name, that of an element which is not allowed, one that is nearly the same is kept, and the element itself is left
+ * out, or is an exception. */
 static void add_classes(struct words *words, const struct expected *expected, struct span name) {
     for (uint32_t at = expected->first; at != 0; at = expected->classes[at].next) {
         const struct wanted_class *class = &expected->classes[at];
         size_t begin = words->answer->expected.length;
-        if (name.length > 0 && is_own(words, class)) {
+        bool is_exception = name.length > 0 && has_own(words, class);
+        if (is_exception && class->kind == WANTED_NAME) {
             continue;
         }
-        add_class(words, class);
+        add_class(words, class, is_exception);
         if (class->kind == WANTED_NAME && name.length > 0) {
             keep_near(words, name, class->local, begin);
         }

@@ -207,6 +207,9 @@ class Lines(InFolder):
                                    ("<a><c y='1'/></a>", "1:4: invalid: <c> is not allowed here; expected <b> or <x>"),
                                    ("<a><c/></a>", "1:4: invalid: <c> is not allowed here; expected <b> or <x>")):
             self.invalid(schema, document, reported)
+        schema = 'namespace p = "u" element a { (element p:* - p:x { notAllowed } | element * - (p:* | b) { notAllowed } | element c { empty })* }'
+        self.invalid(schema, "<a xmlns:p='u'><p:b/></a>",
+                     "1:16: invalid: <p:b> is not allowed here; expected <c>, any element (with exceptions) or any element of u (with exceptions)")
 
     def test_far_behind(self):
         """What is told does not depend on how far behind the place is."""

@@ -65,9 +65,10 @@ static const char *const documents[] = {
     "<!DOCTYPE a SYSTEM 'd' [<!ENTITY e 'f'> <!ATTLIST a y CDATA '1'>]><a x='1'>&e;</a>",
     "<a><b></a>",
     "<a x='1' i='p' xmlns:n='u'><b r='q'/><b r='p'/></a>",
+    "<a x='2' xmlns:n='u'><b s='1'>text</b></a>",
 };
 
-enum { DOCUMENTS = sizeof documents / sizeof *documents, MOST = 100000 };
+enum { DOCUMENTS = sizeof documents / sizeof *documents, HINTED = DOCUMENTS - 1, MOST = 100000 };
 
 /* What is kept of an answer. */
 struct kept {
@@ -135,6 +136,49 @@ static bool refuse_in_annotations(const char *text, const char *blanked, long af
     return was_refused;
 }
 
+/* A document that is read once more. */
+struct again {
+    const char *left;
+};
+
+static void read_again(rncv_xml_piece *piece) {
+    struct again *again = piece->context;
+    size_t length = strlen(again->left);
+    piece->length = length < piece->size ? length : piece->size;
+    memcpy(piece->bytes, again->left, piece->length);
+    again->left += piece->length;
+}
+
+/* Looks for hints with growths refused: what is told is told in whole, and what follows is judged as before. False: nothing was refused. Each time there is a
+ * new judge, since what was not made once is not made again. */
+static bool refuse_in_hints(size_t at, long after, size_t wanted) {
+    rncv_xml_judge judged = RNCV_XML_NOTHING;
+    struct again again = {documents[at]};
+    struct kept kept;
+    rncv_xml_answer hint;
+    size_t count = MOST;
+    check(rncv_xml_judge_open("s.rnc", NULL, 0, &judged, NULL) == RNCV_DONE && judge(&judged, at, &kept) == RNCV_DONE, "judged for hints", after);
+    left = after;
+    int32_t status = rncv_xml_judge_again(&judged, read_again, &again, 9, &count);
+    bool was_refused = left < 0 || (refuses_all && left == 0);
+    left = -1;
+    check(status == RNCV_DONE && (was_refused ? count <= wanted : count == wanted), "hints", after);
+    for (size_t index = 0; index < count; index++) {
+        check(rncv_xml_judge_hint(&judged, index, &hint) == RNCV_DONE && hint.line > 0 && strncmp(hint.message, "hint: ", 6) == 0, "a hint", after);
+    }
+    check(judge(&judged, 0, &kept) == RNCV_DONE && kept.verdict == RNCV_XML_VALID, "the document after hints", after);
+    rncv_xml_judge_free(&judged);
+    return was_refused;
+}
+
+static void refuse_hints(void) {
+    long after = 0;
+    while (after < MOST && refuse_in_hints(HINTED, after, 2)) {
+        after++;
+    }
+    check(after > 20 && after < MOST, "some growths of hints are refused", after);
+}
+
 static void refuse_annotations(void) {
     static const char *const texts[] = {
         "namespace a = 'a' namespace b = 'b' a:x [ a:x = '\\x{41}' b:x = '' ] start = x a:x [ b:x = '' a:x = '' ]",
@@ -158,6 +202,7 @@ static void refuse_annotations(void) {
 static void refuse_each(rncv_xml_judge *judged) {
     long after = 0;
     refuse_annotations();
+    refuse_hints();
     while (after < MOST && refuse_in_opening(after)) {
         after++;
     }

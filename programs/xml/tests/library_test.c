@@ -88,10 +88,12 @@ static void read_and_call(rncv_xml_piece *piece) {
     rncv_xml_judge other = RNCV_XML_NOTHING;
     rncv_xml_answer answer;
     rncv_schema schema = RNCV_NOTHING;
+    size_t count = 0;
     CHECK(rncv_xml_judge_bytes(text->judge, "<a/>", 4, &answer) == RNCV_MISUSE && answer.verdict == RNCV_XML_FAILED);
     CHECK(rncv_xml_judge_file(text->judge, "s.rnc", &answer) == RNCV_MISUSE);
     CHECK(rncv_xml_judge_by(text->judge, read_text, text, &answer) == RNCV_MISUSE);
     CHECK(rncv_xml_judge_share(text->judge, &other) == RNCV_MISUSE && other.hidden == NULL);
+    CHECK(rncv_xml_judge_again(text->judge, read_text, text, 9, &count) == RNCV_MISUSE && rncv_xml_judge_hint(text->judge, 0, &answer) == RNCV_MISUSE);
     CHECK(rncv_xml_judge_open("s.rnc", NULL, 0, text->judge, NULL) == RNCV_MISUSE);
     CHECK(rncv_xml_judge_new(&schema, NULL, 0, text->judge) == RNCV_MISUSE);
     rncv_xml_judge_free(text->judge);
@@ -157,12 +159,55 @@ static void reasons(rncv_xml_judge *judge) {
     CHECK(rncv_xml_judge_file(judge, "none.xml", &answer) == RNCV_DONE && tells(&answer, "", "", "", ""));
 }
 
+/* Looks for further faults of the document that was judged last. */
+static size_t hints_of(rncv_xml_judge *judge, const char *document, size_t most) {
+    struct text text = {document, 7, NULL};
+    size_t count = 77;
+    CHECK(rncv_xml_judge_again(judge, read_text, &text, most, &count) == RNCV_DONE);
+    return count;
+}
+
+static bool is_hint(rncv_xml_judge *judge, size_t index, int32_t at, uint64_t column, const char *name, const char *message) {
+    rncv_xml_answer hint;
+    return rncv_xml_judge_hint(judge, index, &hint) == RNCV_DONE && hint.verdict == RNCV_XML_INVALID && hint.at == at && hint.line == 1 &&
+           hint.column == column && strcmp(hint.name, name) == 0 && strcmp(hint.message, message) == 0 && hint.notes[0] == '\0';
+}
+
+/* Further faults of a document. The answer for it stays. */
+static void further(rncv_xml_judge *judge) {
+    static const char faulty[] = "<a x='2'><b>one</b><c/></a>";
+    static const char *const others[] = {"<a x='1'><b>two</b></a>", "<a x='2'><b>one</b></c>", "<a x='2'>&e;<b>one</b></a>"};
+    struct text text = {faulty, 3, judge};
+    rncv_xml_answer answer;
+    rncv_xml_answer hint;
+    size_t count = 77;
+    CHECK(rncv_xml_judge_bytes(judge, faulty, strlen(faulty), &answer) == RNCV_DONE && rncv_xml_judge_hint(judge, 0, &hint) == RNCV_MISUSE);
+    CHECK(hints_of(judge, faulty, 9) == 2 && hints_of(judge, faulty, SIZE_MAX) == 2);
+    CHECK(is_hint(judge, 0, RNCV_XML_AT_TEXT, 13, "one", "hint: the text of <b> is wrong (\"one\"); expected \"two\""));
+    CHECK(is_hint(judge, 1, RNCV_XML_AT_ELEMENT, 20, "c", "hint: <c> is not allowed here; expected the end of <a>"));
+    CHECK(rncv_xml_judge_hint(judge, 0, &hint) == RNCV_DONE && tells(&hint, "text-value", "", "", "\"two\""));
+    CHECK(rncv_xml_judge_hint(judge, 2, &hint) == RNCV_MISUSE && hint.verdict == RNCV_XML_FAILED && hint.message[0] == '\0');
+    CHECK(answer.verdict == RNCV_XML_INVALID && begins(answer.message, "invalid: attribute x of <a>") && strcmp(answer.name, "x") == 0);
+    CHECK(hints_of(judge, faulty, 1) == 1 && hints_of(judge, faulty, 0) == 0 && hints_of(judge, faulty, 1) == 1);
+    CHECK(rncv_xml_judge_again(judge, read_and_call, &text, 9, &count) == RNCV_DONE && count == 2);
+    CHECK(rncv_xml_judge_again(judge, fail, NULL, 9, &count) == RNCV_DONE && count == 0);
+    CHECK(rncv_xml_judge_again(judge, give_too_much, NULL, 9, &count) == RNCV_DONE && count == 0);
+    CHECK(rncv_xml_judge_again(judge, NULL, NULL, 9, &count) == RNCV_MISUSE && rncv_xml_judge_again(judge, fail, NULL, 9, NULL) == RNCV_MISUSE);
+    CHECK(rncv_xml_judge_again(NULL, fail, NULL, 9, &count) == RNCV_MISUSE && rncv_xml_judge_hint(NULL, 0, &hint) == RNCV_MISUSE);
+    CHECK(hints_of(judge, faulty, 9) == 2);
+    CHECK(rncv_xml_judge_file(judge, "none.xml", &answer) == RNCV_DONE && rncv_xml_judge_hint(judge, 0, &hint) == RNCV_MISUSE);
+    for (size_t at = 0; at < sizeof others / sizeof *others; at++) {
+        CHECK(rncv_xml_judge_bytes(judge, others[at], strlen(others[at]), &answer) == RNCV_DONE && hints_of(judge, faulty, 9) == 0);
+    }
+}
+
 static void answers(rncv_xml_judge *judge) {
     rncv_xml_answer answer;
     for (size_t at = 0; at < ROWS; at++) {
         judge_row(judge, &rows[at]);
     }
     reasons(judge);
+    further(judge);
     /* a document with a note */
     const char *noted = "<!DOCTYPE a SYSTEM 'a.dtd'><a x='1'><b>two</b></a>";
     CHECK(rncv_xml_judge_bytes(judge, noted, strlen(noted), &answer) == RNCV_DONE && answer.verdict == RNCV_XML_VALID);
@@ -528,6 +573,12 @@ static void judge_oddly(rncv_xml_judge *judge, unsigned *state) {
         status = judge == NULL || judge->hidden == NULL ? RNCV_MISUSE : rncv_xml_judge_by(judge, read_and_call, &text, &answer);
     }
     CHECK(status == RNCV_MISUSE || is_row(status, &answer, row) || (is_null && answer.verdict == RNCV_XML_MALFORMED));
+    text.left = rows[chance(state, ROWS)].document; /* it may be another one */
+    size_t count = 0;
+    if (chance(state, 2) == 0 && rncv_xml_judge_again(judge, read_text, &text, chance(state, 3), &count) == RNCV_DONE) {
+        CHECK(count < 3 && rncv_xml_judge_hint(judge, count, &answer) == RNCV_MISUSE);
+        CHECK(count == 0 || (rncv_xml_judge_hint(judge, count - 1, &answer) == RNCV_DONE && begins(answer.message, "hint: ")));
+    }
 }
 
 /* A call that makes or frees something. */
