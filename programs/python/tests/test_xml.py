@@ -142,7 +142,7 @@ class Judged(unittest.TestCase):
 
     def test_hints(self):
         document = b"<a x='2'>\n<b>three</b>\n<c/><b/></a>"
-        told = ['2:4: hint: the text of <b> is wrong ("three"); expected "two"', "3:1: hint: <c> is not allowed here; expected <b> or the end of <a>",
+        told = ['2:4: hint: the text of <b> is wrong ("three"); expected "two"', "3:1: hint: <c> is not allowed here; expected <b>",
                 '3:5: hint: <b> ends too early: expected "two"']
         self.path.write_bytes(document)
         for form in (document, bytearray(document), self.path, str(self.path), io.BytesIO(document), Small(document), open(self.path, "rb")):
