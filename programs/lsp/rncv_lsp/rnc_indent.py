@@ -1,12 +1,15 @@
-"""The indentation of a schema. Only blanks at the beginning of lines change, none in a literal; a schema whose brackets do not match stays as it is."""
+"""The indentation of a schema. Only blanks at the beginning of lines change, none in a literal; a schema whose brackets do not match stays as it is.
+
+It is found part by part. What a part gets depends on the levels before it, and on the ends of the definitions that begin in it, and is kept with the part: after
+a keystroke only the part around it is gone through again."""
 from __future__ import annotations
 
-import dataclasses
+import bisect
 import re
-from typing import Dict, Iterator, List, NamedTuple
+from typing import Dict, Iterator, List, NamedTuple, Tuple
 
 from rncv_lsp.rnc_outline import DEFINE, START
-from rncv_lsp.rnc_parts import Outline
+from rncv_lsp.rnc_parts import Outline, Part
 from rncv_lsp.rnc_tokens import CNAME, LITERAL, OPEN, SIGN, WORD, Token, lexed
 from rncv_lsp.texts import LINE_END
 
@@ -21,6 +24,10 @@ HANG = "  "
 MOST_DEPTH = 1_000
 
 
+# How many ways to indent a part are kept.
+MOST_KEPT = 4
+
+
 class Line(NamedTuple):
     """A line that may begin with blanks: where it and its first token begin, and the blanks that it should have."""
 
@@ -29,8 +36,7 @@ class Line(NamedTuple):
     blanks: str
 
 
-@dataclasses.dataclass
-class Level:
+class Level(NamedTuple):
     """What is in an open bracket, or outside all of them. `outside` has the blanks of the line that closes it, `inside` those of its lines, and `item` those
     of what is there now. `end` is where what is long ends, and `hangs` says that the last line that began with an operator has nothing more."""
 
@@ -40,6 +46,29 @@ class Level:
     item: str
     end: int = 0
     hangs: bool = False
+
+
+Levels = Tuple[Level, ...]
+
+
+class Around(NamedTuple):
+    """What is around a part: the blanks of a level, the levels before it, where definitions in it begin and end, where the first token behind it begins,
+    whether a definition begins there, and whether the text ends there. Offsets count from the beginning of the part."""
+
+    unit: str
+    levels: Levels
+    definitions: Tuple[Tuple[int, int], ...]
+    behind: int
+    is_definition_behind: bool
+    is_last: bool
+
+
+class Indented(NamedTuple):
+    """The lines of a part whose blanks change, and the levels behind it. `is_sure`: the brackets match so far, and there are not too many in one another."""
+
+    lines: List[Line]
+    levels: Levels
+    is_sure: bool
 
 
 def letter(token: Token) -> str:
@@ -58,32 +87,36 @@ def closes(token: Token) -> bool:
     return token.kind == SIGN and token.text in PARTNERS
 
 
-def long_ones(outline: Outline, tokens: List[Token]) -> Dict[int, int]:
-    """Where definitions, declarations and mentions end, by where they begin: their further lines are deeper."""
-    found = {each.opened.name_start: each.end for each in outline.components if each.opened.kind in (DEFINE, START)}
+def long_ones(around: Around, tokens: List[Token]) -> Dict[int, int]:
+    """Where definitions, declarations and mentions of a part end, by where they begin: their further lines are deeper."""
+    found = dict(around.definitions)
     for match in LONG.finditer("".join(map(letter, tokens))):
         found.setdefault(tokens[match.start()].start, tokens[match.end() - 1].end)
     return found
 
 
 class Indenter:
-    """Goes through a schema, line by line. Each level has one more unit of blanks."""
+    """Goes through a part of a schema, line by line. Each level has one more unit of blanks."""
 
-    def __init__(self, outline: Outline, unit: str) -> None:
-        self.text, self.unit = outline.lines.text, unit
-        self.tokens, self.at = lexed(self.text).tokens, 0
-        self.long_ones = long_ones(outline, self.tokens)
-        self.levels = [Level("", "", "", "")]
+    def __init__(self, words: str, around: Around) -> None:
+        self.text, self.unit, self.behind = words, around.unit, Token(SIGN, "", around.behind, around.behind)
+        self.tokens, self.at = lexed(words).tokens, 0
+        self.long_ones = long_ones(around, self.tokens)
+        self.is_long = {*self.long_ones, *([around.behind] if around.is_definition_behind else [])}
+        self.levels, self.is_last = list(around.levels), around.is_last
         self.is_sure = not any(token.kind == OPEN for token in self.tokens)
 
-    def lines(self) -> List[Line]:
-        """The lines that may begin with blanks; none if the brackets do not match, or are too many in one another."""
+    def run(self) -> Indented:
+        """Goes through all lines."""
         starts = [0, *(found.end() for found in LINE_END.finditer(self.text))]
-        found = list(self._lines(starts))
-        return found if self.is_sure and len(self.levels) == 1 else []
+        if not self.is_last:
+            del starts[-1]  # it is the first line of the next part
+        lines = [line for line in self._lines(starts) if self.text[line.start:line.first] != line.blanks]
+        levels = tuple(level._replace(end=max(level.end - len(self.text), 0)) for level in self.levels)
+        return Indented(lines, levels, self.is_sure)
 
     def _lines(self, starts: List[int]) -> Iterator[Line]:
-        """The lines, in their order, as long as the brackets match."""
+        """The lines that may begin with blanks, in their order, as long as the brackets match."""
         for start, behind in zip(starts, [*starts[1:], len(self.text) + 1]):
             first = BLANKS.match(self.text, start).end()  # type: ignore[union-attr]
             is_inside = self.at > 0 and self.tokens[self.at - 1].end > start
@@ -95,46 +128,71 @@ class Indenter:
                 return
 
     def _token(self, index: int) -> Token:
-        """The token with this index; behind the last one, a token at the end of the text."""
-        return self.tokens[index] if index < len(self.tokens) else Token(SIGN, "", len(self.text), len(self.text))
+        """The token with this index; behind the last one, a token where the first one of the next part begins, or at the end of the text."""
+        return self.tokens[index] if index < len(self.tokens) else self.behind
 
     def _blanks(self, first: int) -> str:
         """The blanks of the line that begins here. It may close a bracket first."""
         token, level = self._token(self.at), self.levels[-1]
         if token.start == first and len(self.levels) > 1 and closes(token):
             return level.outside
-        hanging = HANG if level.hangs and not is_operator(token) and token.start not in self.long_ones else ""
+        hanging = HANG if level.hangs and not is_operator(token) and token.start not in self.is_long else ""
         return level.inside + (self.unit if token.start < level.end else "") + hanging
 
     def _take(self, line: Line, behind: int) -> None:
         """Takes the tokens of a line. What an operator at its beginning joins is behind that."""
-        first, level = self._token(self.at), self.levels[-1]
+        first = self._token(self.at)
         item = self._token(self.at + is_operator(first))
         if first.start == line.first and not closes(first):
-            level.item = line.blanks + " " * (item.start - line.first if item.start < behind else 0)
-            level.hangs = item.start >= behind if is_operator(first) else level.hangs
+            level = self.levels[-1]
+            hangs = item.start >= behind if is_operator(first) else level.hangs
+            self.levels[-1] = level._replace(item=line.blanks + " " * (item.start - line.first if item.start < behind else 0), hangs=hangs)
         while self.at < len(self.tokens) and self.tokens[self.at].start < behind:
             item = self._take_token(self.tokens[self.at], item)
             self.at += 1
 
     def _take_token(self, token: Token, item: Token) -> Token:
         """Takes a token of a line whose first pattern begins with an item. Returns the item in a parenthesis, if it begins with one."""
-        level = self.levels[-1]
         if token.start in self.long_ones:
-            level.end, level.hangs = self.long_ones[token.start], False
+            self.levels[-1] = self.levels[-1]._replace(end=self.long_ones[token.start], hangs=False)
         if token.kind == SIGN and token.text in ("{", "(", "["):
-            is_aligned, following = token.text == "(" and token is item, self._token(self.at + 1)
-            inside = level.item + (" " if is_aligned else self.unit)
-            self.levels.append(Level(token.text, level.item, inside, inside if is_aligned else level.item))
+            is_aligned, following, outside = token.text == "(" and token is item, self._token(self.at + 1), self.levels[-1].item
+            inside = outside + (" " if is_aligned else self.unit)
+            self.levels.append(Level(token.text, outside, inside, inside if is_aligned else outside))
             self.is_sure = self.is_sure and len(self.levels) <= MOST_DEPTH
             return following if is_aligned and following.start == token.end else item
         if closes(token):
-            self.is_sure = self.is_sure and level.sign == PARTNERS[token.text]
+            self.is_sure = self.is_sure and self.levels[-1].sign == PARTNERS[token.text]
             del self.levels[max(1, len(self.levels) - 1):]
         return item
 
 
 def indented(outline: Outline, unit: str) -> List[Line]:
     """The blanks at the beginning of lines that change: where they are, and what is there instead."""
-    found = Indenter(outline, unit).lines()
-    return [line for line in found if outline.lines.text[line.start:line.first] != line.blanks]
+    ends = [(each.opened.name_start, each.end) for each in outline.components if each.opened.kind in (DEFINE, START)]
+    levels: Levels = (Level("", "", "", ""),)
+    found: List[Line] = []
+    for begin, part in outline.placed():
+        end = begin + part.length
+        behind = BLANKS.match(outline.lines.text, end).end()  # type: ignore[union-attr]
+        first, last = (bisect.bisect_left(ends, (place,)) for place in (begin, end))
+        definitions = tuple((start - begin, upto - begin) for start, upto in ends[first:last])
+        is_definition_behind = last < len(ends) and ends[last][0] == behind
+        around = Around(unit, levels, definitions, behind - begin, is_definition_behind, end == outline.lines.length)
+        part_found = indented_part(part, outline.lines.text[begin:end], around)
+        if not part_found.is_sure:
+            return []
+        found += [Line(line.start + begin, line.first + begin, line.blanks) for line in part_found.lines]
+        levels = part_found.levels
+    return found if len(levels) == 1 else []
+
+
+def indented_part(part: Part, words: str, around: Around) -> Indented:
+    """What changes in a part. It is kept with the part, for the last few things that were around it."""
+    found = part.indented.get(around)
+    if found is None:
+        found = Indenter(words, around).run()
+        while len(part.indented) >= MOST_KEPT:
+            del part.indented[next(iter(part.indented))]
+        part.indented[around] = found
+    return found

@@ -4,7 +4,7 @@ from __future__ import annotations
 import bisect
 import functools
 import re
-from typing import Dict, Iterator, List, NamedTuple, Optional, Tuple
+from typing import Any, Dict, Iterator, List, NamedTuple, Optional, Tuple
 
 from rncv_lsp.outside import KEYWORDS
 from rncv_lsp.rnc_outline import LIBRARY, SPACE, Facts, Name, Opened, State, read
@@ -27,6 +27,8 @@ class Part:
     def __init__(self, scan: Scan, facts: Facts, length: int) -> None:
         self.scan, self.facts, self.length = scan, facts, length
         self.starts = [name.start for name in facts.names]
+        # How its lines are indented (rnc_indent.py), by what is around it.
+        self.indented: Dict[Any, Any] = {}
 
     @functools.cached_property
     def by_text(self) -> Dict[str, List[Name]]:
