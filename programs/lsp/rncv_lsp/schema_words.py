@@ -73,13 +73,18 @@ def has_start(text: str) -> bool:
 
 
 def end_of_token(text: str, start: int) -> int:
-    """Where the token that begins at a place ends. If no token begins there: where an escape, an unclosed literal or a character ends."""
-    ends = {token.start: token.end for token in tokens_of(text)}
+    """Where the token that begins at a place ends. If no token begins there: where an escape, an unclosed literal or a character ends. An escape may stand for
+    a part of a token, and only in a text with one the tokens before the place count."""
+    if "\\x" in text:
+        end = {token.start: token.end for token in tokens_of(text)}.get(start, 0)
+    else:
+        found = TOKEN.match(text, start)
+        end = found.end() if found and found.lastgroup != "blank" else 0
     escape = ESCAPE.match(text, start)
-    if escape and ends.get(start, 0) < escape.end():
+    if escape and end < escape.end():
         return escape.end()
-    if start in ends:
-        return ends[start]
+    if end > 0:
+        return end
     if text[start:start + 1] in ("'", '"'):
         return min((at for at in (text.find(end, start) for end in "\r\n") if at >= 0), default=len(text))
     return min(start + 1, len(text))

@@ -45,30 +45,30 @@ class PyxFeed(Feed):
     def __init__(self, validator: rncv.Validator) -> None:
         self.document: rncv.Document = validator.begin()
         self._lines: List[str] = []
-        self._add = self._lines.append
+        self.add = self._lines.append  # adds a line
 
     def start(self, name: str, attributes: List[str], scope: Dict[str, str]) -> None:
         """Takes a start tag. The library finds the declarations among the attributes."""
-        self._add("(" + name)
+        self.add("(" + name)
         for at in range(0, len(attributes), 2):
-            self._add(f"A{attributes[at]} {escaped(attributes[at + 1])}")
+            self.add(f"A{attributes[at]} {escaped(attributes[at + 1])}")
 
     def end(self, name: str) -> None:
         """Takes an end tag."""
-        self._add(")" + name)
+        self.add(")" + name)
 
     def text(self, words: str) -> None:
         """Takes a text, in lines that are not too long."""
         if len(words) <= LINE_LENGTH:
-            self._add("-" + (escaped(words) if "\\" in words or "\n" in words or "\t" in words else words))
+            self.add("-" + (escaped(words) if "\\" in words or "\n" in words or "\t" in words else words))
             return
         for at in range(0, len(words), LINE_LENGTH):
-            self._add("-" + escaped(words[at:at + LINE_LENGTH]))
+            self.add("-" + escaped(words[at:at + LINE_LENGTH]))
 
     def flush(self) -> None:
         """Hands on the lines."""
         if self._lines and self._lines[-1][0] in "(A":
-            self._add("?")  # the next line says that the tag has no more attributes
+            self.add("?")  # the next line says that the tag has no more attributes
         if self._lines and not self.is_refused:
             self.is_refused = not self.document.feed(("\n".join(self._lines) + "\n").encode("utf-8", "surrogatepass"))
         self._lines.clear()

@@ -5,12 +5,12 @@ from __future__ import annotations
 import bisect
 import re
 import xml.parsers.expat
-from typing import Any, Dict, List, NamedTuple, Optional, Tuple
+from typing import Any, Callable, Dict, List, NamedTuple, Optional, Tuple
 
 from rncv_lsp.outside import rncv
 from rncv_lsp.simple_form import XML_NAMESPACE
 from rncv_lsp.texts import Text
-from rncv_lsp.xml_feeds import Feed
+from rncv_lsp.xml_feeds import Feed, PyxFeed
 
 FIRST_SCOPE: Dict[str, str] = {"": "", "xml": XML_NAMESPACE}
 # How many characters are parsed at once.
@@ -83,20 +83,50 @@ class Reading:
         if hasattr(parser, "SetReparseDeferralEnabled"):
             parser.SetReparseDeferralEnabled(False)
         is_whole = self._inside is None
-        parser.StartElementHandler, parser.EndElementHandler = (self._start, self._end) if is_whole else (self._start_inside, self._end_inside)
+        parser.StartElementHandler = self._start if is_whole else self._start_inside
+        parser.EndElementHandler = self._end_handler() if is_whole else self._end_inside
         parser.StartCdataSectionHandler, parser.EndCdataSectionHandler = (lambda: self._set_data(True)), (lambda: self._set_data(False))
         if self.feed.document is not None:
             parser.CharacterDataHandler = self.feed.text if is_whole else self._text_inside
 
     def _start(self, name: str, attributes: List[str]) -> None:
-        """Takes a start tag."""
-        stack = self._stack
-        scope = stack[-1][1] if stack else FIRST_SCOPE
-        if attributes:
-            scope = scope_in(scope, attributes)
-        stack.append((name, scope, self._parser.CurrentByteIndex))
+        """Takes the start tag of the root."""
         self.has_root = True
-        self.feed.start(name, attributes, scope)
+        self._parser.StartElementHandler = take = self._start_handler()
+        take(name, attributes)
+
+    def _start_handler(self) -> Callable[[str, List[str]], None]:
+        """What takes a start tag. It is called for each tag before the cursor, so it calls little itself: a line of PYX without attributes is added at
+        once."""
+        stack, parser, feed = self._stack, self._parser, self.feed
+        push, add, hand_on = stack.append, feed.add if isinstance(feed, PyxFeed) else None, feed.start
+
+        def take(name: str, attributes: List[str]) -> None:
+            """Takes a start tag."""
+            scope = stack[-1][1] if stack else FIRST_SCOPE
+            if attributes:
+                scope = scope_in(scope, attributes)
+            push((name, scope, parser.CurrentByteIndex))
+            if attributes or add is None:
+                hand_on(name, attributes, scope)
+            else:
+                add("(" + name)
+
+        return take
+
+    def _end_handler(self) -> Callable[[str], None]:
+        """What takes an end tag."""
+        pop, add, hand_on = self._stack.pop, self.feed.add if isinstance(self.feed, PyxFeed) else None, self.feed.end
+
+        def take(name: str) -> None:
+            """Takes an end tag."""
+            pop()
+            if add is None:
+                hand_on(name)
+            else:
+                add(")" + name)
+
+        return take
 
     def _start_inside(self, name: str, attributes: List[str]) -> None:
         """Takes a start tag. The element and its children get all declarations that hold in them."""
@@ -109,11 +139,6 @@ class Reading:
         self.has_root = True
         if len(stack) <= 2:
             self.feed.start(name, [word for prefix, uri in declared for word in (f"xmlns:{prefix}" if prefix else "xmlns", uri)], scope)
-
-    def _end(self, name: str) -> None:
-        """Takes an end tag."""
-        del self._stack[-1]
-        self.feed.end(name)
 
     def _end_inside(self, name: str) -> None:
         """Takes an end tag."""
