@@ -2,6 +2,7 @@
 from __future__ import annotations
 
 import argparse
+import gc
 import os
 import sys
 from typing import Any
@@ -11,6 +12,9 @@ from rncv_lsp.versions import shown_version
 
 # The threads that judge give way to the one that reads messages after this time.
 SWITCH_SECONDS = 0.001
+# After so many new objects the interpreter looks for those that are in cycles, and after so many times for old ones too. By default it would do so many times
+# within an answer about a large schema.
+CYCLES = (100_000, 20, 20)
 DESCRIPTION = """A language server for RELAX NG schemas in the compact syntax, and for XML documents that have such a schema. It uses the Language Server
 Protocol on its standard streams, and reads no files except schemas. The variable RNCV_LIBRARY names the library. docs/use/EDITORS.md says how to set up
 editors."""
@@ -80,6 +84,7 @@ def main() -> None:
     # Other output goes to standard error.
     sys.stdout = sys.stderr
     sys.setswitchinterval(SWITCH_SECONDS)
+    gc.set_threshold(*CYCLES)
     try:
         status = Server(source, sink, given.datatypes, given.max_faults).run()
     except KeyboardInterrupt:

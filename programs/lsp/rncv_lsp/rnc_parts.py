@@ -9,7 +9,7 @@ from typing import Any, Dict, Iterator, List, NamedTuple, Optional, Tuple
 from rncv_lsp.outside import KEYWORDS
 from rncv_lsp.rnc_outline import LIBRARY, SPACE, Facts, Name, Opened, State, read
 from rncv_lsp.rnc_tokens import CNAME, DOC, LITERAL, OPEN, QUOTED, SIGN, WORD, Lexed, lexed
-from rncv_lsp.texts import Text
+from rncv_lsp.texts import LINE_END, Text
 
 # A line end in front of a definition, an element or an attribute.
 BOUNDARY = re.compile(r"(?:\r\n|\r|\n)(?=[ \t]*(?:(?:element|attribute)[ \t]|(\\?[^\W\d][-.\w]*)[ \t]*[|&]?=))")
@@ -18,6 +18,7 @@ QUOTE = re.compile(r"\\x+\{0*2[27]\}")
 # The keywords behind which nothing more must come, and the signs that say what the token behind them is.
 LAST_WORDS = ("empty", "text", "notAllowed", "string", "token")
 OPEN_SIGNS = ("=", "|=", "&=", "~", ">>")
+# What is kept of the tokens of a part: the lines of its comments and of its braces, where literals have no end, and whether it ends where it may.
 Scan = NamedTuple("Scan", [("comments", List[Tuple[int, int]]), ("braces", List[Tuple[int, str]]), ("open", List[int]), ("is_settled", bool)])
 
 
@@ -63,11 +64,13 @@ class Component(NamedTuple):
     depth: int
 
 
-def scan_of(found: Lexed) -> Scan:
-    """What is kept of the tokens of a part."""
+def scan_of(found: Lexed, words: str) -> Scan:
+    """What is kept of the tokens of a part with this text."""
+    ends = [end.end() for end in LINE_END.finditer(words)]
     comments = found.comments + [(token.start, token.end) for token in found.tokens if token.kind == DOC]
-    braces = [(token.start, token.text) for token in found.tokens if token.kind == SIGN and token.text in "{}[]"]
-    return Scan(sorted(comments), braces, found.open, is_settled(found))
+    lines = [(bisect.bisect_right(ends, start), bisect.bisect_right(ends, end)) for start, end in sorted(comments)]
+    braces = [(bisect.bisect_right(ends, token.start), token.text) for token in found.tokens if token.kind == SIGN and token.text in "{}[]"]
+    return Scan(lines, braces, found.open, is_settled(found))
 
 
 def is_settled(found: Lexed) -> bool:
@@ -136,7 +139,7 @@ class Outline:
         scan = self.known.scans.get(words) or self._old.scans.get(words)
         if scan is None:
             self._fresh = {words: lexed(words)}
-            scan = scan_of(self._fresh[words])
+            scan = scan_of(self._fresh[words], words)
         self.known.scans[words] = scan
         return scan
 

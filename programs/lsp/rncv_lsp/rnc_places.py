@@ -30,5 +30,10 @@ class Lines:
         return {"line": line, "character": offset - start if self._is_plain else units(self._text[start:offset], self._encoding)}
 
     def range(self, start: int, end: int) -> Dict[str, Any]:
-        """The range between two offsets."""
-        return {"start": self.position(start), "end": self.position(end)}
+        """The range between two offsets. An outline has thousands of them, so nothing is called where characters are units."""
+        if not self._is_plain:
+            return {"start": self.position(start), "end": self.position(end)}
+        starts = self.starts
+        first = bisect.bisect_right(starts, start) - 1
+        last = bisect.bisect_right(starts, end) - 1
+        return {"start": {"line": first, "character": start - starts[first]}, "end": {"line": last, "character": end - starts[last]}}

@@ -67,38 +67,39 @@ def has_letters(text: str, query: str) -> bool:
     return all(letter in letters for letter in query.lower())
 
 
-def braces(outline: Outline) -> Iterator[Tuple[int, int]]:
-    """The pairs of braces and of brackets. One that has no partner is skipped."""
+def braces(outline: Outline, lines: Lines) -> Iterator[Tuple[int, int]]:
+    """The lines of the pairs of braces and of brackets. One that has no partner is skipped."""
     waiting: List[Tuple[int, str]] = []
     for begin, part in outline.placed():
-        for at, sign in part.scan.braces:
+        above = lines.line(begin)
+        for line, sign in part.scan.braces:
             if sign in "{[":
-                waiting.append((begin + at, sign))
+                waiting.append((above + line, sign))
                 continue
             while sign == "}" and waiting and waiting[-1][1] == "[":
                 waiting.pop()
             if waiting and waiting[-1][1] == ("{" if sign == "}" else "["):
-                yield waiting.pop()[0], begin + at
+                yield waiting.pop()[0], above + line
 
 
 def comment_lines(outline: Outline, lines: Lines) -> Iterator[Tuple[int, int]]:
     """The first and the last line of each block of comments."""
     first, last = -1, -2
     for begin, part in outline.placed():
+        above = lines.line(begin)
         for start, end in part.scan.comments:
-            line = lines.line(begin + start)
-            if line > last + 1:
+            if above + start > last + 1:
                 if last > first:
                     yield first, last
-                first = line
-            last = lines.line(begin + end)
+                first = above + start
+            last = above + end
     if last > first:
         yield first, last
 
 
 def foldings(outline: Outline, lines: Lines) -> List[Dict[str, Any]]:
     """The ranges that can be folded: between braces that are on different lines, whose last line stays, and blocks of comments."""
-    pairs = ((lines.line(start), lines.line(end) - 1) for start, end in braces(outline))
-    found = {pair: {"startLine": pair[0], "endLine": pair[1]} for pair in pairs if pair[1] > pair[0]}
+    pairs = {(start, end - 1) for start, end in braces(outline, lines) if end - 1 > start}
+    found = [{"startLine": start, "endLine": end} for start, end in pairs]
     comments = [{"startLine": first, "endLine": last, "kind": "comment"} for first, last in comment_lines(outline, lines)]
-    return sorted([*found.values(), *comments], key=lambda reported: (reported["startLine"], -reported["endLine"]))
+    return sorted([*found, *comments], key=lambda reported: (reported["startLine"], -reported["endLine"]))
