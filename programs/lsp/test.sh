@@ -25,6 +25,9 @@ cd "$here" || exit 1
 for editor in nvim emacs; do
     command -v "$editor" >"$room/editor" || echo "programs/lsp/test.sh: the settings for $editor are not tested, it is not installed"
 done
+if command -v emacs >"$room/editor" && ! emacs --batch --eval "(require 'eglot)" >"$room/editor" 2>&1; then
+    echo "programs/lsp/test.sh: the settings for emacs are not tested, it has no eglot (Debian 12: elpa-eglot)"
+fi
 
 # The parts run in parallel, and their output is printed in order.
 for part in $parts; do

@@ -21,7 +21,7 @@ FILES = {
     "build.xml": ("<project>", "malformed"),
     "book.xml": ("<?xml version='1.0'?>\n<!DOCTYPE book PUBLIC '-//OASIS//DTD DocBook XML V4.5//EN' 'book.dtd'>\n<book>", "malformed note"),
 }
-PAGE_SCHEMA = 'default namespace = "http://www.w3.org/1999/xhtml"\nelement html { element body { empty } }'
+PAGE_SCHEMA = 'default namespace = "http://www.w3.org/1999/xhtml"\n## A page\nelement html { element body { empty } }'
 NVIM_FILETYPES = {"a.rnc": "rnc", "a.rng": "rng", "a.xml": "xml", "a.xhtml": "xhtml", "a.xsl": "xslt", "a.xsd": "xsd", "a.svg": "svg", "build.xml": "ant",
                   "book.xml": "docbk"}
 NVIM_SCRIPT = """
@@ -51,6 +51,10 @@ for _, answer in pairs(vim.lsp.buf_request_sync(0, "textDocument/completion", pl
   for _, item in ipairs(answer.result.items) do io.stdout:write(item.label .. "|") end
 end
 io.stdout:write("\\n")
+place.position.character = 2
+for _, answer in pairs(vim.lsp.buf_request_sync(0, "textDocument/hover", place, 60000)) do
+  io.stdout:write(tostring(answer.result.contents.value:find("A page", 1, true) ~= nil) .. "\\n")
+end
 vim.cmd("qa!")
 """
 EMACS_FILES = {"a.rnc": "rnc-mode", "a.rng": "nxml-mode", "a.xml": "nxml-mode", "a.xhtml": "mhtml-mode", "a.xsl": "nxml-mode", "book.xml": "nxml-mode",
@@ -65,6 +69,18 @@ EMACS_SCRIPT = """
         (accept-process-output nil 0.1)
         (flymake-start)))
     (princ (format "%%s|%%s|%%s\\n" name major-mode (mapconcat #'flymake-diagnostic-text (flymake-diagnostics) " ")))))
+(with-current-buffer (find-file-noselect "a.xhtml")
+  (let ((inhibit-message t) found hovered (limit (+ (float-time) 60)))
+    (erase-buffer)
+    (insert "<html xmlns='http://www.w3.org/1999/xhtml'><")
+    (eglot--signal-textDocument/didChange)
+    (while (and (< (float-time) limit) (not found))
+      (accept-process-output nil 0.1)
+      (setq found (let ((asked (eglot-completion-at-point))) (and asked (all-completions "" (nth 2 asked))))))
+    (goto-char 3)
+    (setq hovered (jsonrpc-request (eglot--current-server-or-lose) :textDocument/hover (eglot--TextDocumentPositionParams)))
+    (princ (format "completion|%%s\\n" (mapconcat #'substring-no-properties found " ")))
+    (princ (format "hover|%%s\\n" (if (string-match-p "A page" (plist-get (plist-get hovered :contents) :value)) "A page" "?")))))
 """
 
 
@@ -106,8 +122,8 @@ class Editors(unittest.TestCase):
         self.write("init.lua", settings("init.lua"))
         self.write("script.lua", NVIM_SCRIPT % ", ".join(f'["{name}"] = "{code}"' for name, (_, code) in FILES.items()))
         lines, errors = self.lines("nvim", "--headless", "-u", str(self.folder / "init.lua"), "-S", str(self.folder / "script.lua"))
-        self.assertEqual(sorted(lines[:-2]), sorted([name, NVIM_FILETYPES[name], code] for name, (_, code) in FILES.items()), errors)
-        self.assertEqual(lines[-2:], [["2", "1"], ["/html", "body", ""]], errors)
+        self.assertEqual(sorted(lines[:-3]), sorted([name, NVIM_FILETYPES[name], code] for name, (_, code) in FILES.items()), errors)
+        self.assertEqual(lines[-3:], [["2", "1"], ["/html", "body", ""], ["true"]], errors)
 
     @unittest.skipUnless(shutil.which("emacs"), "no emacs here")
     def test_emacs(self):
@@ -118,7 +134,8 @@ class Editors(unittest.TestCase):
         self.write("init.el", settings("init.el"))
         self.write("script.el", EMACS_SCRIPT % " ".join(f'"{name}"' for name in EMACS_FILES))
         lines, errors = self.lines("emacs", "--batch", "-l", str(self.folder / "init.el"), "-l", str(self.folder / "script.el"))
-        found = {name: (mode, sorted(re.findall(r"\[(\w+)\]", reported))) for name, mode, reported in lines}
+        self.assertEqual([(name, set(told.split(" "))) for name, told in lines[-2:]], [("completion", {"/html", "body"}), ("hover", {"A", "page"})], errors)
+        found = {name: (mode, sorted(re.findall(r"\[(\w+)\]", reported))) for name, mode, reported in lines[:-2]}
         wanted = {name: (mode, FILES.get(name, ("", "malformed"))[1].split()) for name, mode in EMACS_FILES.items()}
         self.assertEqual(found, wanted, errors)
 
