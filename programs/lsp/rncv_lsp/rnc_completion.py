@@ -10,11 +10,14 @@ from rncv_lsp.rnc_grammars import Node
 from rncv_lsp.rnc_hover import library_of
 from rncv_lsp.rnc_names import Asked
 from rncv_lsp.rnc_outline import CLASS, CONTENT, PARAMS, SQUARE, Reader, State
+from rncv_lsp.rnc_symbols import has_letters
 from rncv_lsp.rnc_tokens import DOC, NOTHING, OPEN, WORD, lexed
 from rncv_lsp.rnc_types import datatypes_of, parameters_of
 
 TYPED = re.compile(r"\\?[-.\w]*(?::[-.\w]*)?\Z")
 LONGEST = 200
+# So many names of definitions are in an answer. If there are more, those that fit what is typed are, and the client asks again.
+MOST_NAMES = 256
 PATTERN_WORDS = ("attribute", "element", "empty", "external", "grammar", "list", "mixed", "notAllowed", "parent", "string", "text", "token")
 CONTENT_WORDS = ("div", "include", "start")
 TOP_WORDS = ("datatypes", "default", "namespace")
@@ -62,8 +65,16 @@ def completion(asked: Asked, is_profile: bool) -> Optional[Dict[str, Any]]:
     if spot is None:
         return None
     place = asked.lines(asked.key).range(spot.start, asked.offset)
-    return {"isIncomplete": False, "items": [{"label": text, "kind": kind, "textEdit": {"range": place, "newText": text}}
-                                             for text, kind in dict.fromkeys(items(asked, spot, is_profile))]}
+    every = list(dict.fromkeys(items(asked, spot, is_profile)))
+    found = fitting(every, spot.typed.lstrip("\\")) if len(every) > MOST_NAMES else every
+    return {"isIncomplete": found is not every, "items": [{"label": text, "kind": kind, "textEdit": {"range": place, "newText": text}} for text, kind in found]}
+
+
+def fitting(every: List[Item], typed: str) -> List[Item]:
+    """Those of many items that have the letters that are typed, and not all names. Those that begin with what is typed come first."""
+    found = [item for item in every if has_letters(item[0], typed)]
+    names_found = sorted((item for item in found if item[1] == NAME), key=lambda item: not item[0].startswith(typed))
+    return [*names_found[:MOST_NAMES], *(item for item in found if item[1] != NAME)]
 
 
 def items(asked: Asked, spot: Spot, is_profile: bool) -> Iterable[Item]:

@@ -490,6 +490,18 @@ class Completions(Asking):
         place = found["items"][0]["textEdit"]["range"] if found["items"] else None
         return [each["label"] for each in found["items"]], place and place["end"]["character"] - place["start"]["character"]
 
+    def test_many_names(self):
+        """Of many names those are told that fit what is typed, and the client is to ask again. Keywords are told in each case."""
+        definitions = "".join(f"\nb{number} = empty" for number in range(400)) + "\nab39 = empty"
+        for typed, first, count in (("", "b0", 256), ("b", "b0", 256), ("b39", "b39", 23), ("\\b39", "b39", 23), ("B399", "b399", 1), ("em", "element", 0)):
+            uri = self.put("s.rnc", f"start = {typed}@0@{definitions}")
+            found = self.ask("completion", "0")
+            self.client.close(uri)
+            labels = [each["label"] for each in found["items"]]
+            self.assertTrue(found["isIncomplete"], typed)
+            self.assertEqual((labels[0], len([each for each in labels if each[-1].isdigit()])), (first, count), typed)
+        self.assertEqual(len(self.completed("start = @0@\nb = empty")[0]), len(set(self.completed("start = @0@\nb = empty")[0])))
+
     def test_patterns(self):
         for text in ("start = @0@", "start = a, \\list | @0@", "start = a, fo@0@", "start = element x { ( @0@", "start = a # '\n & e@0@ } c", "start = (@0@)"):
             found, _ = self.completed(f"foo = text\n\\list = empty\nx = grammar {{ inner = text }}\n{text}\nbar = text")

@@ -1,4 +1,9 @@
-"""Tests of how long the server takes for edits of large documents, and for requests that come while it judges. The limits are for a busy machine."""
+"""Tests of how long the server takes for edits of large documents, and for requests that come while it judges. The limits are for a busy machine.
+
+    python3 -B test_speed.py --times     prints how long answers take behind keystrokes at 20 places in 200 KB: the least, the median and the worst time
+"""
+import statistics
+import sys
 import time
 import unittest
 
@@ -8,6 +13,29 @@ MODEL = '<?xml-model href="s.rnc"?>\n'
 ITEM = "<item at='1'>text and <![CDATA[more]]> \u00e9</item>"
 COUNT = 100_000
 EDITS = 100
+# The longest that an answer may take behind a keystroke in a document of this length.
+ANSWER_SECONDS, ANSWER_LENGTH = 0.02, 200_000
+PLACES = 20
+BOOK_SCHEMA = """## A book
+start = element book { element title { text }, chapter+ }
+## A chapter
+chapter = element chapter { attribute id { xsd:NCName }, element title { text }, section* }
+section = element section { attribute role { "draft" | "final" }?, element title { text }, (para | items)* }
+## A paragraph
+para = element para { (text | element emph { text } | element link { attribute href { xsd:anyURI }, text })* }
+items = element list { element item { para+ }+ }
+"""
+PARA = "<para>Some words <emph>here</emph> and <link href='http://example.org/'>there</link>.</para>\n"
+SECTION = ("<section role='draft'><title>Section</title>\n" + PARA * 6 + "<list><item><para>one</para></item><item><para>two</para></item></list>\n"
+           "</section>\n")
+DEFINITION = """## The element {0}
+# and more words
+e{0} = element name{0} {{
+  attribute id {{ xsd:NCName }}?,
+  attribute kind {{ "a" | "b" }}?,
+  (e{1} | text | element inner{0} {{ text }})*
+}}
+"""
 # Some 0.2 seconds when nothing else runs. To copy the whole text for each edit would take 20 seconds.
 SECONDS = 10.0
 
@@ -58,7 +86,7 @@ class Large(WithServer):
 
     def test_completion_behind_each_keystroke(self):
         """Near the end of 200 KB. An answer takes about a millisecond when nothing else runs, and some 30 if all is read anew."""
-        count = 200_000 // len(ITEM)
+        count = ANSWER_LENGTH // len(ITEM)
         self.client.open(self.uri_of_document, f"{MODEL}<list>\n" + f"{ITEM}\n" * count + "\n</list>")
         self.client.found(self.uri_of_document)
         times = []
@@ -69,8 +97,97 @@ class Large(WithServer):
             answer = self.client.request("textDocument/completion", place)["result"]
             times.append(time.monotonic() - begin)
             self.assertEqual(bool(answer["items"]), column < len("<item at"), column)
-        self.assertLess(min(times), 0.02)  # the least, since other tests take the processor too
+        self.assertLess(min(times), ANSWER_SECONDS)  # the least, since other tests take the processor too
+
+
+class Answers(WithServer):
+    """How long answers take behind keystrokes that are spread over documents of 200 KB."""
+
+    CAPABILITIES = {"textDocument": {"documentSymbol": {"hierarchicalDocumentSymbolSupport": True}}}
+
+    def typed(self, uri, places, letters, requests):
+        """For each request and for the first keystroke at a place, or a later one, how long the answers took. `places` are lines, in which letters are typed
+        at a column."""
+        times, version = {}, 1
+        for line, column in places:
+            for at, letter in enumerate(letters):
+                version += 1
+                self.client.change(uri, version, (line, column + at, line, column + at, letter))
+                for method, params in requests(line, column + at + 1).items():
+                    begin = time.perf_counter()
+                    answer = self.client.request(f"textDocument/{method}", {"textDocument": {"uri": uri}, **params})
+                    times.setdefault((method, "there" if at else "first"), []).append(time.perf_counter() - begin)
+                    self.assertIn("result", answer, method)
+            version += 1
+            self.client.change(uri, version, (line, column, line, column + len(letters), ""))
+        return times
+
+    @staticmethod
+    def spread(lines):
+        """Some of these lines, so that each is far from the one before."""
+        chosen = [lines[number * (len(lines) - 1) // (PLACES - 1)] for number in range(PLACES)]
+        return [chosen[number * 7 % PLACES] for number in range(PLACES)]
+
+    def in_a_document(self):
+        """The times in an XML document."""
+        self.write("s.rnc", BOOK_SCHEMA)
+        chapter = "<chapter id='c{}'>\n<title>Chapter</title>\n" + SECTION * 8 + "</chapter>\n"
+        text = f"{MODEL}<book>\n<title>Book</title>\n" + "".join(map(chapter.format, range(ANSWER_LENGTH // len(chapter) + 1))) + "</book>\n"
+        uri = self.uri("a.xml")
+        self.client.open(uri, text)
+        self.assertEqual(self.client.found(uri), [])
+        places = self.spread([number for number, line in enumerate(text.split("\n")) if line.startswith("<para>")])
+
+        def requests(line, column):
+            """The requests behind a keystroke."""
+            at, name = ({"position": {"line": line, "character": character}} for character in (column, 1))
+            return {"completion": at, "hover": name, "definition": name}
+
+        return self.typed(uri, [(line, 0) for line in places], "<para><em", requests)
+
+    def in_a_schema(self):
+        """The times in a schema."""
+        count = ANSWER_LENGTH // len(DEFINITION)
+        text = "start = e0\n" + "".join(DEFINITION.format(number, number + 1) for number in range(count)) + f"e{count} = element last {{ empty }}\n"
+        uri = self.uri("b.rnc")
+        self.client.open(uri, text, "rnc")
+        self.assertEqual(self.client.found(uri), [])
+        places = self.spread([number for number, line in enumerate(text.split("\n")) if line.startswith("  (e")])
+
+        def requests(line, column):
+            """The requests behind a keystroke."""
+            at, name = ({"position": {"line": line, "character": character}} for character in (column, 4))
+            options = {"options": {"tabSize": 2, "insertSpaces": True}}
+            near = {"start": {"line": line - 3, "character": 0}, "end": {"line": line + 3, "character": 0}}
+            return {"completion": at, "hover": name, "definition": name, "references": {**name, "context": {"includeDeclaration": True}},
+                    "documentSymbol": {}, "foldingRange": {}, "rangeFormatting": {**options, "range": near}}
+
+        return self.typed(uri, [(line, 3) for line in places], "e1 | ", requests)
+
+    def test_documents(self):
+        for (method, when), times in self.in_a_document().items():
+            if when == "there":  # else all before the place is read
+                self.assertLess(min(times), ANSWER_SECONDS, method)
+
+    def test_schemas(self):
+        """An outline and a list of all names are long answers, and on a busy machine most of the time is waiting."""
+        for (method, _), times in self.in_a_schema().items():
+            is_long = method in ("completion", "documentSymbol", "foldingRange")
+            self.assertLess(min(times), (3 if is_long else 1) * ANSWER_SECONDS, method)
+
+
+def main():
+    """Prints the times."""
+    for kind in ("in_a_document", "in_a_schema"):
+        case = Answers(kind)
+        Answers.setUpClass()
+        case.setUp()
+        print(kind)
+        for (method, when), times in getattr(case, kind)().items():
+            least, middle, worst = (1000 * found for found in (min(times), statistics.median(times), max(times)))
+            print(f"    {method:20} {when:6} least {least:6.1f}   median {middle:6.1f}   worst {worst:6.1f} milliseconds of {len(times)}")
+        case.doCleanups()
 
 
 if __name__ == "__main__":
-    unittest.main()
+    main() if "--times" in sys.argv else unittest.main()
