@@ -91,8 +91,9 @@ _rncv_profile() {
 _rncv_lsp() {
     case $3 in
     --datatypes) _rncv_words "xml-schema profile" "$2"; return ;;
+    --max-faults) COMPREPLY=(); return ;;
     esac
-    _rncv_words "--datatypes --stdio --help -h --version" "$2"
+    _rncv_words "--datatypes --max-faults --stdio --help -h --version" "$2"
 }
 
 complete -F _rncv rncv
