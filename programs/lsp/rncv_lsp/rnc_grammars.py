@@ -190,9 +190,8 @@ class Grammars:
     def visible(self, nodes: Iterable[Node]) -> List[str]:
         """The names that are defined in the grammars of these nodes."""
         sharing = dict.fromkeys(each for node in nodes for each in self._sharing(node))
-        found = {(key, scope): None for key, scope in sharing}
-        names = (name for key in dict.fromkeys(key for key, _ in found) for name in self.outlines[key].with_role(DEFINE) if (key, name.scope) in found)
-        return list(dict.fromkeys(name.text for name in names))
+        keys = dict.fromkeys(key for key, _ in sharing)
+        return list(dict.fromkeys(text for key in keys for text, scope in self.outlines[key].texts_of(DEFINE) if (key, scope) in sharing))
 
 
 def reached(node: Node, steps: Callable[[Node], Iterable[Node]]) -> List[Node]:

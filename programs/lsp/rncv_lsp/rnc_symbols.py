@@ -1,6 +1,7 @@
 """The outline of a schema as the protocol shows it: its components, and the ranges that can be folded."""
 from __future__ import annotations
 
+import functools
 from typing import Any, Dict, Iterator, List, Tuple
 
 from rncv_lsp.rnc_outline import DEFINE, ELEMENT, INCLUDE, START
@@ -19,9 +20,13 @@ MOST_SYMBOLS = 1_000
 def kind_of(component: Component) -> int:
     """The kind of a component."""
     opened = component.opened
-    if opened.kind != DEFINE:
-        return KINDS[opened.kind]
-    words = [word for word in opened.detail.split(" ") if word not in ("|=", "&=")]
+    return kind_of_definition(opened.detail) if opened.kind == DEFINE else KINDS[opened.kind]
+
+
+@functools.lru_cache(maxsize=1_024)
+def kind_of_definition(detail: str) -> int:
+    """The kind of a definition, by what kind of pattern it has."""
+    words = [word for word in detail.split(" ") if word not in ("|=", "&=")]
     return PATTERN_KINDS.get(words[0] if words else "", STRUCT)
 
 

@@ -1,7 +1,8 @@
 """Tests of how long the server takes for edits of large documents, and for requests that come while it judges. The limits are for a busy machine.
 
-    python3 -B test_speed.py --times     prints how long answers take behind keystrokes at 20 places in 200 KB: the least, the median and the worst time
+    python3 -B test_speed.py --times     prints how long answers take behind keystrokes at 20 places in 200 KB: of a processor and by the clock
 """
+import pathlib
 import statistics
 import sys
 import time
@@ -13,8 +14,9 @@ MODEL = '<?xml-model href="s.rnc"?>\n'
 ITEM = "<item at='1'>text and <![CDATA[more]]> \u00e9</item>"
 COUNT = 100_000
 EDITS = 100
-# The longest that an answer may take behind a keystroke in a document of this length.
-ANSWER_SECONDS, ANSWER_LENGTH = 0.02, 200_000
+# The longest that an answer may take behind a keystroke in a document of this length. Where many others use the processors, it
+# takes three times as long.
+ANSWER_SECONDS, ANSWER_LENGTH, BUSY = 0.02, 200_000, 3
 PLACES = 20
 BOOK_SCHEMA = """## A book
 start = element book { element title { text }, chapter+ }
@@ -105,18 +107,26 @@ class Answers(WithServer):
 
     CAPABILITIES = {"textDocument": {"documentSymbol": {"hierarchicalDocumentSymbolSupport": True}}}
 
+    def spent(self):
+        """The processor time of the thread that answers; the clock, if the system does not tell it."""
+        identity = self.client.process.pid
+        try:
+            return int(pathlib.Path(f"/proc/{identity}/task/{identity}/schedstat").read_text().split()[0]) / 1e9
+        except (OSError, IndexError, ValueError):
+            return time.perf_counter()
+
     def typed(self, uri, places, letters, requests):
-        """For each request and for the first keystroke at a place, or a later one, how long the answers took. `places` are lines, in which letters are typed
-        at a column."""
+        """For each request and for the first keystroke at a place, or a later one, how long the answers took: of a processor, and by the clock. `places` are
+        lines, in which letters are typed at a column."""
         times, version = {}, 1
         for line, column in places:
             for at, letter in enumerate(letters):
                 version += 1
                 self.client.change(uri, version, (line, column + at, line, column + at, letter))
                 for method, params in requests(line, column + at + 1).items():
-                    begin = time.perf_counter()
+                    begin = self.spent(), time.perf_counter()
                     answer = self.client.request(f"textDocument/{method}", {"textDocument": {"uri": uri}, **params})
-                    times.setdefault((method, "there" if at else "first"), []).append(time.perf_counter() - begin)
+                    times.setdefault((method, "there" if at else "first"), []).append((self.spent() - begin[0], time.perf_counter() - begin[1]))
                     self.assertIn("result", answer, method)
             version += 1
             self.client.change(uri, version, (line, column, line, column + len(letters), ""))
@@ -164,16 +174,17 @@ class Answers(WithServer):
 
         return self.typed(uri, [(line, 3) for line in places], "e1 | ", requests)
 
+    def check(self, times):
+        """Wants short times. At a place that is new all before it is read, which the other test counts."""
+        for (method, when), each in times.items():
+            if when == "there":
+                self.assertLess(statistics.median(spent for spent, _ in each), BUSY * ANSWER_SECONDS, method)
+
     def test_documents(self):
-        for (method, when), times in self.in_a_document().items():
-            if when == "there":  # else all before the place is read
-                self.assertLess(min(times), ANSWER_SECONDS, method)
+        self.check(self.in_a_document())
 
     def test_schemas(self):
-        """An outline and a list of all names are long answers, and on a busy machine most of the time is waiting."""
-        for (method, _), times in self.in_a_schema().items():
-            is_long = method in ("completion", "documentSymbol", "foldingRange")
-            self.assertLess(min(times), (3 if is_long else 1) * ANSWER_SECONDS, method)
+        self.check(self.in_a_schema())
 
 
 def main():
@@ -182,10 +193,10 @@ def main():
         case = Answers(kind)
         Answers.setUpClass()
         case.setUp()
-        print(kind)
+        print(f"{kind}: milliseconds of a processor, and by the clock: the median, and the worst")
         for (method, when), times in getattr(case, kind)().items():
-            least, middle, worst = (1000 * found for found in (min(times), statistics.median(times), max(times)))
-            print(f"    {method:20} {when:6} least {least:6.1f}   median {middle:6.1f}   worst {worst:6.1f} milliseconds of {len(times)}")
+            shown = "   ".join(f"{1000 * statistics.median(each):6.1f} {1000 * max(each):6.1f}" for each in zip(*times))
+            print(f"    {method:20} {when:6} {shown}   of {len(times)}")
         case.doCleanups()
 
 
