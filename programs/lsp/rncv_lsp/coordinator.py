@@ -24,6 +24,8 @@ from rncv_lsp.xml_source import Cancelled, GivenUp
 # How long the server waits for more messages before it judges: longer for a large document, of so many characters in a second more. How long that may take
 # in all, as a multiple. How often it checks whether the files that it used have changed.
 SETTLE_SECONDS, SETTLE_LENGTH, MOST_SETTLE_SECONDS, MOST_SETTLES, POLL_SECONDS = 0.03, 20_000_000, 0.5, 10, 1.0
+# Hints take five times as long as the first fault. In a document of more characters the first fault does not wait for them.
+LONG_LENGTH = 262_144
 
 
 @dataclasses.dataclass(frozen=True)
@@ -174,11 +176,14 @@ class Coordinator:
             return self._tasks.get(document.uri) is not task or not self._documents.is_current(document)
 
         try:
-            found = self._found(task, is_cancelled)
+            for step in steps_of(task):
+                found = self._found(step, is_cancelled)
+                reported_of = [self._diagnostic(document.lines, finding) for finding in (*task.findings, *found)]
+                self._publisher.set_one(f"xml:{document.uri}", document.uri, reported_of, lambda: None if is_cancelled() else document.version)
+                if not any(finding.code == "invalid" for finding in found):
+                    break
         except GivenUp:
             return
-        reported_of = [self._diagnostic(document.lines, finding) for finding in (*task.findings, *found)]
-        self._publisher.set_one(f"xml:{document.uri}", document.uri, reported_of, lambda: None if is_cancelled() else document.version)
         self.prepare(task)
 
     def _found(self, task: Task, is_cancelled: Cancelled) -> List[Finding]:
@@ -213,6 +218,12 @@ class Coordinator:
 def uri_of_file(file: SchemaFile) -> str:
     """The URI under which a file's diagnostics are sent: the client's URI, if the file is open."""
     return file.document.uri if file.document else uri_of(file.path)
+
+
+def steps_of(task: Task) -> List[Task]:
+    """What is judged and published one after the other: in a long document the first fault alone, and then all."""
+    is_once = task.most_faults == 1 or task.document.lines.length <= LONG_LENGTH
+    return [task] if is_once else [dataclasses.replace(task, most_faults=1), task]
 
 
 def task_of(document: Document, named: Named, schema: Optional[SchemaSet], outcomes: Dict[str, Outcome]) -> Task:

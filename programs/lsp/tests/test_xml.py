@@ -77,6 +77,15 @@ class Documents(WithServer):
         self.assertEqual(logged, ["rncv-lsp: the setting maxFaults is no number from 1 to 1000"])
         self.assertEqual(self.found("<?xml-model href='s.rnc'?><letter to='c'><b></letter>")[0][0], "malformed")
 
+    def test_hints_in_a_long_document(self):
+        """The first fault does not wait for them."""
+        uri = self.uri("long.xml")
+        self.client.open(uri, MODEL + "<letter to='c'>" + "<!-- x -->\n" * 30_000 + "<title>x</title><body/></letter>")
+        self.assertEqual([each["code"] for each in self.client.found(uri)], ["invalid"])
+        self.assertEqual(span(self.client.codes(uri, ["invalid", "hint"])[1]), (30_001, 7, 30_001, 8))
+        self.client.change(uri, 2, MODEL + "<letter><title>1</title><!--" + "x" * 300_000 + "--><body/></letter>")
+        self.assertEqual(self.client.found(uri, 2), [])
+
     def test_the_most_faults(self):
         client = self.started("--max-faults", "2")
         client.initialize(None, self.folder)
