@@ -1,5 +1,5 @@
 -- What is left after an attribute, where alternatives are joined.
-use Rattle.std.proofs.Common.{◌≡◌, ◌↔◌, ◌<◌, ◌+◌, ◌⊎◌, ⊎_elim, All, Bor, List, [], ◌∷◌, ◌++◌, Some, ℕ, zero, suc, arith, get_or, length, refl}
+use Rattle.std.proofs.Common.{◌≡◌, ◌↔◌, ◌<◌, ◌+◌, ⊎_elim, All, Bor, List, [], ◌∷◌, ◌++◌, Some, ℕ, zero, suc, arith, get_or, length, refl}
 use Rattle.std.proofs.Common.{slice_get, subst, sym, take}
 use Rattle.std.proofs.lemmas.List.{get_or-map, length-map, take_more}
 use Rattle.std.proofs.lemmas.List.Elements.{All-contains, Contains-append_left, Contains-push, Contains-push_cases}

@@ -4,6 +4,7 @@ mod ListPieces
 mod JoinedRests
 mod TagAttributes
 mod SettledRests
+mod WholeStrings
 mod PlannedRests
 mod ComparedTexts
 mod NarrowedWays

@@ -298,3 +298,20 @@ module _ (t : Table) (old new : List Node) (number rest : PatternNumber) (inside
         );
         kept = λ o. subst IsRestricted (sym is) (Obeys-hereditary places.Content).of_not_allowed;
       }
+
+-- what is left of a leaf in a table that has grown, as a test in the earlier one tells
+pub leaf_left_later : (t : Table) (old mid new : List Node) (leaf rest : PatternNumber) (first : First) (b : Bool) → Longer old mid → leaf.0 < length old
+    → IsLeafFor first (tree_of t old leaf.0) → TellsTaken (reading_of t) first (tree_of t old leaf.0) b
+    → (IsLeafFor first (tree_of t mid leaf.0) → TellsTaken (reading_of t) first (tree_of t mid leaf.0) b → IsLeft t mid new first leaf rest)
+    → IsLeft t old new first leaf rest
+leaf_left_later t old mid new leaf rest first b longer inside sort tells left =
+    let stays = tree_stays t old mid leaf.0 longer inside in
+    let At : Simple ℕ → Type 0 = λ p. IsLeafFor first p in
+    let Told : Simple ℕ → Type 0 = λ p. TellsTaken (reading_of t) first p b in
+    let made = left (subst At (sym stays) sort) (subst Told (sym stays) tells) in
+    record {
+      inside = made.inside;
+      law = λ o. subst (λ p. AreThoseBehind (reading_of t) first p (Takes (reading_of t) (tree_of t new rest.0))) stays
+          (made.law (subst (Obeys (place_of first)) (sym stays) o));
+      kept = λ o. made.kept (subst (Obeys (place_of first)) (sym stays) o);
+    }

@@ -1,16 +1,15 @@
 -- What is left of a pattern where no more than two rests are left.
-use Rattle.std.proofs.Common.{Bor, ◌≡◌, ◌∙◌, ◌||◌, inl, inr, ℕ, ◌<◌, ◌↔◌, List, [], ◌∷◌, ◌++◌, length, refl, sym, subst, arith}
+use Rattle.std.proofs.Common.{Bor, ◌≡◌, inl, inr, ℕ, ◌<◌, ◌↔◌, get_or, List, [], ◌∷◌, ◌++◌, length, refl, sym, subst, arith}
 use Rattle.std.proofs.Common.{Bool, true, false, Option, Some, None, Contains}
 use Rattle.std.specs.Prelude.{IfSome}
-use Rattle.std.proofs.lemmas.List.Elements.{Contains-append_cases, Contains-append_left, Contains-append_right, Contains-get_or, All-contains}
-use Rattle.std.proofs.lemmas.Bool.{or_left, or_right, or_cases}
+use Rattle.std.proofs.lemmas.List.Elements.{Contains-append_left, Contains-append_right, Contains-get_or, All-contains, All-head}
 use Rattle.rng_model.proofs.Members.{not_in_none}
 use Rattle.rng_model.specs.simple.Tree.{Simple, s_not_allowed}
-use Rattle.rng_model.specs.matching.Document.{Attribute, Item, a_text, no_texts, text_and}
+use Rattle.rng_model.specs.declared.document.Attr.{Attr}
+use Rattle.rng_model.specs.declared.name.Name.{Name}
+use Rattle.rng_model.specs.matching.Document.{Attribute, Item}
 use Rattle.rng_model.specs.matching.GrammarMatching.{reading_of}
 use Rattle.rng_model.specs.simple.Table.{Table}
-use Rattle.rng_deriv_laws.specs.plain.Blanks.{strings_alone}
-use Rattle.rng_deriv_laws.specs.plain.Restricted.{IsRestricted}
 use Rattle.rng_deriv_laws.specs.plain.Taking.{Takes}
 use Rattle.rng_deriv_table.specs.plain.Reduced.{HasAlternative}
 use Rattle.rng_deriv_table.specs.views.Choices.{IsAlternativeOf, SomeTakes}
@@ -20,9 +19,9 @@ use Rattle.rng_deriv_table.specs.declared.pattern.PatternNumber.{PatternNumber}
 use Rattle.rng_deriv_table.proofs.Choices.{only_one}
 use Rattle.rng_deriv_table.proofs.Trees.{Longer-refl}
 use Rattle.rng_deriv_ways.specs.plain.Kinds.{Obeys}
-use Rattle.rng_deriv_ways.specs.plain.Ways.{IsInside}
+use Rattle.rng_deriv_ways.specs.plain.Ways.{AreWaysOf, IsInside}
+use Rattle.rng_deriv_ways.specs.declared.way.Kind.TheVariants as kinds
 use Rattle.rng_deriv_ways.specs.declared.way.LeafWay.{LeafWay}
-use Rattle.rng_deriv_ways.specs.declared.way.Place.TheVariants as places
 use Rattle.rng_deriv_ways.proofs.KeptRestrictions.{Obeys-hereditary}
 use Rattle.rng_deriv_texts.specs.plain.After.{AreWaysFor, IsLeft, TellsTaken, place_of}
 use Rattle.rng_deriv_texts.specs.plain.Settling.{AreLeft, IsCovered, IsRestInside, IsSettled, with_told}
@@ -30,7 +29,7 @@ use Rattle.rng_deriv_texts.specs.declared.first.First.{First}
 use Rattle.rng_deriv_texts.specs.declared.first.First.TheVariants as firsts
 use Rattle.rng_deriv_texts.specs.declared.settled.Rest.{Rest}
 use Rattle.rng_deriv_texts.specs.declared.settled.Rest.TheVariants as rest_kinds
-use Rattle.rng_deriv_texts.proofs.RestsOfWays.{leaf_covered, leaf_leaves, leaf_leaves_none, left_behind, takes_nothing, those_same}
+use Rattle.rng_deriv_texts.proofs.RestsOfWays.{leaf_covered, leaf_leaves, leaf_leaves_none, left_behind, no_rests, takes_nothing, those_same, ways_for_attribute}
 
 pub if_some : {X : Type 0} (o : Option X) (P Q : X → Type 0) → ((x : X) → P x → Q x) → IfSome o P → IfSome o Q
 if_some (Some x) P Q f h = f x h
@@ -133,40 +132,17 @@ module _ (t : Table) (ns : List Node) (first : First) (number : PatternNumber) w
     kept = λ o. subst (Obeys (place_of first)) (sym is) (Obeys-hereditary (place_of first)).of_not_allowed;
   }
 
--- ---- a string alone
-
-module _ (t : Table) (ns : List Node) (s : Bor (List ℕ)) (number : PatternNumber) where
-  abbrev TakesIt : Type 0
-  TakesIt = Takes (reading_of t) (tree_of t ns number.0) [] (a_text s.now ∷ [])
-
-  pub only_told : (rest : PatternNumber) (b : Bool) → IsSettled t ns (firsts.Text places.Content s) (tree_of t ns number.0) (rest_kinds.Only rest)
-      → ((b ≡ true) ↔ Takes (reading_of t) (tree_of t ns rest.0) [] []) → IsRestricted (tree_of t ns number.0) → (b ≡ true) ↔ TakesIt
-  only_told rest b settled nullable o =
-      let left = only_left t ns (firsts.Text places.Content s) number rest settled in
-      let law = left.law o [] (strings_alone (text_and no_texts)) in
-      (λ e. law.0 (nullable.0 e), λ d. nullable.1 (law.1 d))
-
-  pub two_told : (rest other : PatternNumber) (a b c : Bool)
-      → IsSettled t ns (firsts.Text places.Content s) (tree_of t ns number.0) (rest_kinds.Two rest other)
-      → ((a ≡ true) ↔ Takes (reading_of t) (tree_of t ns rest.0) [] []) → ((b ≡ true) ↔ Takes (reading_of t) (tree_of t ns other.0) [] [])
-      → c ≡ a || b → IsRestricted (tree_of t ns number.0) → (c ≡ true) ↔ TakesIt
-  two_told rest other a b c (ws, all, some) first second is o =
-      let Own : PatternNumber → Type 0 = λ m. Takes (reading_of t) (tree_of t ns m.0) [] [] in
-      let law = all.law o [] (strings_alone (text_and no_texts)) in
-      let f = some.takes (all.kept o) [] [] in (
-        λ e. law.0 (f.0 (elim (or_cases a b (sym is ∙ e)) [
-          | inl h ↦ (rest, has_first rest other, first.0 h)
-          | inr h ↦ (other, has_second rest other, second.0 h)
-        ])),
-        λ d. let m = f.1 (law.1 d) in is ∙ elim (Contains-append_cases (rest ∷ []) (other ∷ []) m.0 m.1) [
-          | inl h ↦ or_left a b (first.1 (subst Own (sym (only_one rest m.0 h)) m.2))
-          | inr h ↦ or_right a b (second.1 (subst Own (sym (only_one other m.0 h)) m.2))
-        ],
-      )
-
-  pub nothing_told : IsSettled t ns (firsts.Text places.Content s) (tree_of t ns number.0) rest_kinds.Nothing → IsRestricted (tree_of t ns number.0)
-      → (false ≡ true) ↔ TakesIt
-  nothing_told (ws, all, some) o =
-      let law = all.law o [] (strings_alone (text_and no_texts)) in
-      let f = some.takes (all.kept o) [] [] in
-      (λ e. absurd (cc), λ d. let m = f.1 (law.1 d) in absurd (not_in_none m.1))
+-- an attribute that the leaf of the only way takes
+pub left_by_one : (t : Table) (ns : List Node) (a : Bor Attr) (q : Bor Name) (number : PatternNumber) (ws : List LeafWay) (d : LeafWay) (b : Bool)
+    → length ws ≡ 1 → q.now ≡ a.now.name → AreWaysOf t ns (kinds.Attribute q) (tree_of t ns number.0) ws → b ≡ true
+    → TellsTaken (reading_of t) (firsts.Attribute a) (tree_of t ns (get_or ws 0 d).leaf.0) b
+    → IsLeft t ns ns (firsts.Attribute a) number (get_or ws 0 d).rest
+left_by_one t ns a q number [] d b one same h taken tells = absurd (omega (arith, one))
+left_by_one t ns a q number (w ∷ []) d b one same h taken tells =
+    let first = firsts.Attribute a in
+    let p = tree_of t ns number.0 in
+    let told = subst (TellsTaken (reading_of t) first (tree_of t ns w.leaf.0)) taken tells in
+    let left : AreLeft t ns first (w ∷ []) (rest_kinds.Only w.rest) =
+    told_more t ns first [] w (All-head (IsInside ns) w [] h.inside) (Some true) rest_kinds.Nothing told (no_rests t ns first [] refl) in
+    only_left t ns first number w.rest (w ∷ [], ways_for_attribute t ns a q p (w ∷ []) same h, left)
+left_by_one t ns a q number (w ∷ v ∷ ws) d b one same h taken tells = absurd (omega (arith, one))

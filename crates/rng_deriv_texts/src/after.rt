@@ -5,7 +5,7 @@ ghost use Rattle.rng_model.specs.datatypes.Texts.{pieces};
 ghost use Rattle.rng_model.specs.documents.EventViews.{attribute_of};
 ghost use Rattle.rng_model.specs.matching.Document.{a_text};
 ghost use Rattle.rng_model.specs.matching.GrammarMatching.{reading_of};
-ghost use Rattle.rng_model.specs.simple.Table.{tree_at};
+ghost use Rattle.rng_model.specs.simple.Table.{Table, tree_at};
 ghost use Rattle.rng_deriv_laws.specs.plain.LevelStates.{IsAfterText};
 ghost use Rattle.rng_deriv_laws.specs.plain.Restricted.{IsRestricted, MayBeListed};
 ghost use Rattle.rng_deriv_laws.specs.plain.Taking.{Takes, WeaklyTakes};
@@ -29,7 +29,7 @@ use crate::first::First;
 use crate::joined_sides::with_sides_joined;
 use crate::leaf_tests::{data_takes, is_blank, is_leaf_for, list_body};
 use crate::plans::{TakenPlan, asked, plan_of, rest_by};
-use crate::settled::{Rest, left_by_few, settled};
+use crate::settled::{Rest, left_by_few, left_by_only_way, settled, takes_by_known};
 use crate::value_index::ways_to_test;
 use rng_deriv_table::{Pattern, PatternNumber, PatternTable};
 use rng_deriv_ways::{
@@ -157,6 +157,10 @@ pub fn after_attribute(
     ensures known { OnOk result (AreAllKnown context.now.grammar.now context.now.keys.now table.new known.new) }
     ensures left { IfOk result (IsLeft context.now.grammar.now table.old table.new (firsts.Attribute attr.entry) number) }
 {
+    // Most attributes have one way, and are the ones that were asked for last.
+    if let Some(rest) = left_by_only_way(context, table, known, attr, number) {
+        return with_sides_joined(context.alloc, table, rest);
+    }
     let rest = after(context, table, known, First::Attribute(attr), number)?;
     with_sides_joined(context.alloc, table, rest)
 }
@@ -183,7 +187,25 @@ fn after(
     after_ways(context, table, known, first, number)
 }
 
-/// Returns what is left of a leaf of the sort that may take this, after it.
+/// Returns what is left of a leaf after something that it takes, or does not take. Fails only when out of memory.
+fn left_of_leaf(
+    table: &mut PatternTable,
+    leaf: PatternNumber,
+    taken: bool,
+) -> Result<PatternNumber, OutOfMemory>
+    requires inside { leaf.0 < length table.old }
+    ensures longer { Longer table.old table.new }
+    ensures left { IfOk result (λ rest. (t : Table) (first : First) → IsLeafFor first (tree_of t table.old leaf.0)
+        → TellsTaken (reading_of t) first (tree_of t table.old leaf.0) taken → IsLeft t table.old table.new first leaf rest) }
+{
+    if !taken {
+        return table.not_allowed();
+    }
+    rest_of_leaf(table, leaf)
+}
+
+/// Returns what is left of a leaf of the sort that may take this, after it. What is known tells whether nearly every leaf
+/// takes it.
 #[cycle(after)]
 fn after_leaf(
     context: &Context,
@@ -200,10 +222,11 @@ fn after_leaf(
     ensures known { OnOk result (AreAllKnown context.now.grammar.now context.now.keys.now table.new known.new) }
     ensures left { IfOk result (IsLeft context.now.grammar.now table.old table.new first.entry leaf) }
 {
-    if !takes(context, table, known, first, leaf)? {
-        return table.not_allowed();
+    if let Some(taken) = takes_by_known(context, table, known, first, leaf) {
+        return left_of_leaf(table, leaf, taken);
     }
-    rest_of_leaf(table, leaf)
+    let taken = takes(context, table, known, first, leaf)?;
+    left_of_leaf(table, leaf, taken)
 }
 
 /// The same for any pattern.

@@ -16,8 +16,9 @@ ghost use Rattle.rng_deriv_ways.specs.views.Datatypes.{AreDatatypesOf};
 ghost use Rattle.rng_deriv_ways.specs.views.KnownWays.{AreAllKnown};
 ghost use Rattle.rng_deriv_ways.specs.declared.way.Kind.TheVariants as kinds;
 ghost use Rattle.rng_deriv_ways.specs.declared.way.Place.{Place};
-ghost use Rattle.rng_deriv_texts.specs.plain.After.{AreWaysFor, TellsTaken};
-ghost use Rattle.rng_deriv_texts.specs.plain.Settling.{AreLeft, IsCovered, IsSettled, with_told};
+ghost use Rattle.rng_deriv_ways.specs.declared.way.Place.TheVariants as places;
+ghost use Rattle.rng_deriv_texts.specs.plain.After.{AreWaysFor, IsLeft, TellsTaken};
+ghost use Rattle.rng_deriv_texts.specs.plain.Settling.{AreLeft, IsCovered, IsSettled, TellsWhole, with_told};
 ghost use Rattle.rng_deriv_texts.specs.declared.first.First.TheVariants as firsts;
 
 use crate::first::First;
@@ -49,6 +50,7 @@ pub enum Rest {
 /// Allocates nothing.
 ///
 /// RELAX NG Specification, sections 6.2.8 and 6.2.9.
+#[inline(always)]
 fn datum_takes(
     grammar: &SimpleGrammar,
     datatypes: &Datatypes,
@@ -68,6 +70,7 @@ fn datum_takes(
 }
 
 /// Returns whether a leaf takes a string, if it is text, a value or a data without except. Allocates nothing.
+#[inline(always)]
 fn text_leaf_takes(
     context: &Context,
     table: &PatternTable,
@@ -90,6 +93,7 @@ fn text_leaf_takes(
 }
 
 /// Returns whether these ways are those for the key of the name, as far as the name itself shows it. Allocates nothing.
+#[inline(always)]
 fn are_last_for(context: &Context, last: &LastWays, name: &Name) -> bool
     ensures { result ≡ true → name_at context.now.keys.now last.now.key.0 ≡ name_of name.now }
 {
@@ -116,9 +120,10 @@ fn ways_by_key<'a>(
     known_ways(own, number)
 }
 
-/// Returns the known ways of a pattern to take an attribute with this name. Those that were computed last are tried
-/// first, by a comparison of two names. Allocates nothing.
-fn attribute_ways_known<'a>(
+/// Returns the ways of a pattern to take an attribute that were computed last, if they are those for this name. Allocates
+/// nothing.
+#[inline(always)]
+fn last_ways_for<'a>(
     context: &Context,
     known: &'a Known,
     name: &Name,
@@ -130,6 +135,23 @@ fn attribute_ways_known<'a>(
     let last = last_ways(known.last.as_slice(), number)?;
     if are_last_for(context, last, name) {
         return Some(last.ways.as_slice());
+    }
+    None
+}
+
+/// Returns the known ways of a pattern to take an attribute with this name. Those that were computed last are tried
+/// first, by a comparison of two names. Allocates nothing.
+fn attribute_ways_known<'a>(
+    context: &Context,
+    known: &'a Known,
+    name: &Name,
+    number: PatternNumber,
+) -> Option<&'a [LeafWay]>
+    ensures { (ns : List Node) → AreAllKnown context.now.grammar.now context.now.keys.now ns known.now
+        → IfSome result (λ ws. AreWaysOf context.now.grammar.now ns (kinds.Attribute name.entry) (tree_of context.now.grammar.now ns number.0) ws.now) }
+{
+    if let Some(ways) = last_ways_for(context, known, name, number) {
+        return Some(ways);
     }
     ways_by_key(context, known, name, number)
 }
@@ -181,7 +203,6 @@ fn with_told(told: Option<bool>, rest: Rest, way: LeafWay) -> Rest
 /// a pattern with many ways, whose tests cost much. Allocates nothing. The cost is at most one look-up for a string, and
 /// a test of each leaf. For an attribute it is a comparison of names if its key is the last one of the pattern, and
 /// otherwise at most four look-ups.
-#[cycle(settled)]
 pub fn settled(
     context: &Context,
     table: &PatternTable,
@@ -201,7 +222,6 @@ pub fn settled(
 }
 
 /// Returns what is left by these ways, unless they are many. Allocates nothing. The cost is a test of each leaf.
-#[cycle(settled)]
 #[inline(always)]
 pub fn left_by_few(
     context: &Context,
@@ -221,8 +241,30 @@ pub fn left_by_few(
     only_rest(context, table, known, first, ways)
 }
 
+/// Returns what is left of a pattern after an attribute, if the pattern has one way to take one with its name, whose leaf
+/// is known to take it, and the name is the last one of the pattern. Allocates nothing. The cost is a comparison of names
+/// and a test of the leaf.
+#[inline(always)]
+pub fn left_by_only_way(
+    context: &Context,
+    table: &PatternTable,
+    known: &Known,
+    attr: &Attr,
+    number: PatternNumber,
+) -> Option<PatternNumber>
+    requires ready { IsReady context.now.grammar.now table.now context.now.numbers.now }
+    requires known { AreAllKnown context.now.grammar.now context.now.keys.now table.now known.now }
+    ensures { IfSome result (λ rest. IsLeft context.now.grammar.now table.now table.now (firsts.Attribute attr.entry) number rest) }
+{
+    let ways = last_ways_for(context, known, &attr.name, number)?;
+    let [way] = ways else {
+        return None;
+    };
+    let told = takes_by_known(context, table, known, First::Attribute(attr), way.leaf)?;
+    if told { Some(way.rest) } else { None }
+}
+
 /// Returns the rest of the ways whose leaves take this.
-#[cycle(settled)]
 fn only_rest(
     context: &Context,
     table: &PatternTable,
@@ -243,15 +285,15 @@ fn only_rest(
         if is_covered(rest, *way) {
             continue;
         }
-        let told = takes(context, table, known, first, way.leaf);
+        let told = takes_by_known(context, table, known, first, way.leaf);
         rest = with_told(told, rest, *way);
     }
     rest
 }
 
 /// Returns whether a leaf takes this, as far as known ways tell.
-#[cycle(settled)]
-fn takes(
+#[inline(always)]
+pub fn takes_by_known(
     context: &Context,
     table: &PatternTable,
     known: &Known,
@@ -275,7 +317,7 @@ fn takes(
 }
 
 /// Returns whether the attribute pattern at a position of the grammar takes an attribute, as far as known ways tell.
-#[cycle(settled)]
+#[inline(always)]
 fn attribute_takes(
     context: &Context,
     table: &PatternTable,
@@ -301,7 +343,7 @@ fn attribute_takes(
 /// Returns whether a pattern weakly takes the value of an attribute, as far as known ways tell.
 ///
 /// RELAX NG Specification, section 6.2.7.
-#[cycle(settled)]
+#[inline(always)]
 fn value_takes(
     context: &Context,
     table: &PatternTable,
@@ -322,7 +364,7 @@ fn value_takes(
 }
 
 /// Returns whether a pattern takes a string alone, as far as known ways tell.
-#[cycle(settled)]
+#[inline(always)]
 fn string_taken(
     context: &Context,
     table: &PatternTable,
@@ -340,13 +382,33 @@ fn string_taken(
     if is_leaf_for(table, first, number) {
         return text_leaf_takes(context, table, known, number, text);
     }
-    match settled(context, table, known, first, number) {
-        Rest::Unknown => None,
-        Rest::Nothing => Some(false),
-        Rest::Only(rest) => Some(table.facts(rest).nullable),
-        Rest::Two(first, second) => {
-            let other = table.facts(second).nullable;
-            Some(table.facts(first).nullable || other)
+    let ways = known_ways(&known.texts, number)?;
+    if ways.len() > FEW_WAYS {
+        return None;
+    }
+    taken_by_some(context, table, known, text, ways)
+}
+
+/// Returns whether one of these ways takes a string alone: its leaf takes the string, and its rest takes nothing.
+fn taken_by_some(
+    context: &Context,
+    table: &PatternTable,
+    known: &Known,
+    text: &str,
+    ways: &[LeafWay],
+) -> Option<bool>
+    requires inside { AreInside table.now ways.now }
+    requires datatypes { AreDatatypesOf context.now.grammar.now known.now.datatypes }
+    ensures { IfSome result (TellsWhole context.now.grammar.now table.now (firsts.Text places.Content text.entry) ways.now) }
+{
+    'ways: for way in ways {
+        if !table.facts(way.rest).nullable {
+            continue;
+        }
+        let taken = text_leaf_takes(context, table, known, way.leaf, text)?;
+        if taken {
+            return Some(true);
         }
     }
+    Some(false)
 }

@@ -1,11 +1,14 @@
 -- What is left of a pattern, as far as its known ways tell.
-use Rattle.std.specs.Prelude.{◌≡◌, ◌⊎◌, ℕ, ◌<◌, All, List, [], ◌∷◌, length, Bool, true, false, Option, Some, None}
+use Rattle.std.specs.Prelude.{◌≡◌, ◌↔◌, ◌⊎◌, ℕ, ◌<◌, All, List, [], ◌∷◌, length, Bool, true, false, Option, Some, None}
 use Rattle.rng_model.specs.simple.Tree.{Simple}
 use Rattle.rng_model.specs.simple.Table.{Table}
+use Rattle.rng_model.specs.matching.GrammarMatching.{reading_of}
 use Rattle.rng_deriv_table.specs.views.Node.{Node}
+use Rattle.rng_deriv_table.specs.views.Trees.{tree_of}
 use Rattle.rng_deriv_table.specs.declared.pattern.PatternNumber.{PatternNumber}
+use Rattle.rng_deriv_ways.specs.plain.Ways.{Offers, ways_by}
 use Rattle.rng_deriv_ways.specs.declared.way.LeafWay.{LeafWay}
-use Rattle.rng_deriv_texts.specs.plain.After.{AreRests, AreWaysFor}
+use Rattle.rng_deriv_texts.specs.plain.After.{AreFor, AreRests, AreWaysFor, attributes_of, items_of}
 use Rattle.rng_deriv_texts.specs.declared.first.First.{First}
 use Rattle.rng_deriv_texts.specs.declared.settled.Rest.{Rest}
 use Rattle.rng_deriv_texts.specs.declared.settled.Rest.TheVariants as rest_kinds
@@ -46,3 +49,8 @@ IsSettled t ns first p rest_kinds.Unknown = Unit {0}
 IsSettled t ns first p rest_kinds.Nothing = (ws : List LeafWay) × AreWaysFor t ns first p ws × AreRests t ns ns first ws []
 IsSettled t ns first p (rest_kinds.Only r) = (ws : List LeafWay) × AreWaysFor t ns first p ws × AreRests t ns ns first ws (r ∷ [])
 IsSettled t ns first p (rest_kinds.Two r q) = (ws : List LeafWay) × AreWaysFor t ns first p ws × AreRests t ns ns first ws (r ∷ q ∷ [])
+
+-- the test is whether by one of these ways a leaf takes what comes first and its rest takes nothing
+abbrev pub TellsWhole : Table → List Node → First → List LeafWay → Bool → Type 0
+TellsWhole t ns first ws b = AreFor first (ways_by (tree_of t ns) ws)
+    → (b ≡ true) ↔ Offers (reading_of t) (ways_by (tree_of t ns) ws) (attributes_of first) (items_of first) [] []

@@ -1,4 +1,4 @@
-use Rattle.std.proofs.Common.{◌≡◌, ◌∙◌, ◌↔◌, ◌<◌, ◌+◌, ◌++◌, [], ◌∷◌, suc, All, Contains, List, Option, Some, true, false, true≢false, take}
+use Rattle.std.proofs.Common.{◌≡◌, ◌∙◌, ◌↔◌, ◌<◌, ◌+◌, ◌++◌, [], ◌∷◌, suc, All, Contains, List, Option, Some, true, false, take}
 use Rattle.std.proofs.Common.{get_or, length, length-append, refl, sym, ap, subst, arith, rules}
 use Rattle.std.specs.Prelude.{IfSome}
 use Rattle.std.proofs.lemmas.Option.{slice_get-get_or, slice_get_within}
@@ -17,17 +17,17 @@ use Rattle.rng_deriv_table.specs.plain.AskedFor.{as_part}
 use Rattle.rng_deriv_table.specs.views.Taking.{tree_by}
 use Rattle.rng_deriv_table.specs.views.Trees.{attribute_found, data_found, tree_of}
 use Rattle.rng_deriv_table.specs.declared.pattern.PatternNumber.{PatternNumber}
-use Rattle.rng_deriv_table.proofs.Trees.{Longer-length, Longer-refl, Longer-trans, tree_stays}
+use Rattle.rng_deriv_table.proofs.Trees.{Longer-length, Longer-refl, Longer-trans}
 use Rattle.rng_deriv_texts.specs.plain.After.{AreRests, IsLeft, TellsTaken}
 use Rattle.rng_deriv_texts.specs.plain.Settling.{AreLeft}
 use Rattle.rng_deriv_texts.proofs.SettledRests.{rest_inside, told}
-use Rattle.rng_deriv_ways.specs.plain.Kinds.{Obeys, rest_of_leaf}
+use Rattle.rng_deriv_ways.specs.plain.Kinds.{Obeys}
 use Rattle.rng_model.specs.matching.GrammarMatching.{reading_of}
 use Rattle.rng_deriv_ways.specs.plain.Ways.{AreInside}
 use Rattle.rng_deriv_texts.specs.declared.first.First.TheVariants as firsts
 use Rattle.rng_deriv_ways.specs.declared.way.Place.TheVariants as places
 use Rattle.rng_deriv_ways.specs.declared.way.LeafWay as numbered
-use Rattle.rng_deriv_texts.proofs.RestsOfWays.{leaf_covered, leaf_leaves, leaf_leaves_none, leaf_not_taken, leaf_taken, left_behind, rank}
+use Rattle.rng_deriv_texts.proofs.RestsOfWays.{leaf_covered, leaf_leaves, leaf_leaves_none, leaf_left_later, left_behind, rank}
 use Rattle.rng_deriv_ways.proofs.ClosedTags.{both_ok}
 use Rattle.rng_deriv_ways.proofs.KnownWays.{all_longer}
 use Rattle.rng_deriv_ways.proofs.PatternNodes.{is_over, parts_there}
@@ -56,29 +56,26 @@ after-after_leaf-requires t c =
       ),
     )
 
-pub after_leaf-returns-then-not-branch-clause-known : goal.after_leaf-returns-then-not-branch-clause-known
-after_leaf-returns-then-not-branch-clause-known t c =
-    if_ok c.not_allowed.result _ _ (λ n h. all_longer c.args.context.now.grammar.now c.args.context.now.keys.now c.takes.new.table c.not_allowed.new.self
-    c.not_allowed.ensures.longer c.takes.new.known c.in_ok-takes.ensures.known) c.not_allowed.ensures.tree
+pub after_leaf-returns-in-Some-clause-known : goal.after_leaf-returns-in-Some-clause-known
+after_leaf-returns-in-Some-clause-known t c =
+    if_ok c.left_of_leaf.result _ _ (λ n h. all_longer c.args.context.now.grammar.now c.args.context.now.keys.now c.args.table.now c.left_of_leaf.new.table
+    c.left_of_leaf.ensures.longer c.args.known.now c.requires.known) c.left_of_leaf.ensures.left
 
-pub after_leaf-returns-then-not-branch-clause-left : goal.after_leaf-returns-then-not-branch-clause-left
-after_leaf-returns-then-not-branch-clause-left t c =
-    let t0 = c.args.context.now.grammar.now in
-    if_ok c.not_allowed.result _ _ (λ n h. leaf_not_taken t0 c.args.table.now c.not_allowed.new.self c.args.leaf n h.inside c.args.first c.requires.leaf
-    (h.is t0) (λ o d. true≢false (sym ((c.in_ok-takes.ensures.taken c.requires.leaf o).1 d) ∙ c.if-not-branch.true))) c.not_allowed.ensures.tree
+pub after_leaf-returns-in-Some-clause-left : goal.after_leaf-returns-in-Some-clause-left
+after_leaf-returns-in-Some-clause-left t c =
+    if_ok c.left_of_leaf.result _ _ (λ n h. h c.args.context.now.grammar.now c.args.first c.requires.leaf c.in-Some.ensures) c.left_of_leaf.ensures.left
 
 pub after_leaf-returns-clause-known : goal.after_leaf-returns-clause-known
 after_leaf-returns-clause-known t c =
-    if_ok c.rest_of_leaf.result _ _ (λ n h. all_longer c.args.context.now.grammar.now c.args.context.now.keys.now c.takes.new.table c.rest_of_leaf.new.table
-    c.rest_of_leaf.ensures.longer c.takes.new.known c.in_ok-takes.ensures.known) c.rest_of_leaf.ensures.tree
+    if_ok c.left_of_leaf-2.result _ _ (λ n h. all_longer c.args.context.now.grammar.now c.args.context.now.keys.now c.takes.new.table
+    c.left_of_leaf-2.new.table c.left_of_leaf-2.ensures.longer c.takes.new.known c.in_ok-taken.ensures.known) c.left_of_leaf-2.ensures.left
 
 pub after_leaf-returns-clause-left : goal.after_leaf-returns-clause-left
 after_leaf-returns-clause-left t c =
     let t0 = c.args.context.now.grammar.now in
-    let old = c.args.table.now in
-    let stays = tree_stays t0 old c.takes.new.table c.args.leaf.0 c.in_ok-takes.ensures.longer c.requires.inside in
-    if_ok c.rest_of_leaf.result _ _ (λ n h. leaf_taken t0 old c.rest_of_leaf.new.table c.args.leaf n h.inside c.args.first c.requires.leaf
-    (h.is t0 ∙ ap rest_of_leaf stays) (λ o. (c.in_ok-takes.ensures.taken c.requires.leaf o).0 c.if-not-branch.false)) c.rest_of_leaf.ensures.tree
+    if_ok c.left_of_leaf-2.result _ _ (λ n h. leaf_left_later t0 c.args.table.now c.takes.new.table c.left_of_leaf-2.new.table c.args.leaf n c.args.first
+    c.in_ok-taken.taken c.in_ok-taken.ensures.longer c.requires.inside c.requires.leaf c.in_ok-taken.ensures.taken (h t0 c.args.first))
+    c.left_of_leaf-2.ensures.left
 
 pub attribute_takes-returns-in_default-row : goal.attribute_takes-returns-in_default-row
 attribute_takes-returns-in_default-row t c =

@@ -4,7 +4,7 @@ use Rattle.rng_deriv_ways.specs.plain.Ways.{AreWaysOf}
 use Rattle.rng_deriv_ways.specs.declared.way.Kind.TheVariants as kinds
 use Rattle.rng_deriv_ways.specs.declared.way.LeafWay.{LeafWay}
 use Rattle.rng_deriv_ways.specs.views.KnownWays.{HasLast}
-use Rattle.rng_deriv_texts.proofs.settled.attribute_ways_known.Goals as goal
+use Rattle.rng_deriv_texts.proofs.settled.last_ways_for.Goals as goal
 
 pub returns-then-are_last_for : goal.returns-then-are_last_for
 returns-then-are_last_for c = λ ns all.
