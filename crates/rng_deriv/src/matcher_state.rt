@@ -1,5 +1,6 @@
 // What a matcher keeps, without its grammar.
 ghost use Rattle.std.specs.Prelude.{◌≡◌, ◌↔◌, List, IfOk, IfSome, IsErr, None, OnErr, OnOk, map};
+ghost use Rattle.std.specs.Option.{option_map};
 ghost use Rattle.rng_model.specs.simple.Table.{Table, grammar_of};
 ghost use Rattle.rng_model.specs.documents.EventViews.{attribute_of};
 ghost use Rattle.rng_model.specs.documents.PyxTrees as trees;
@@ -7,10 +8,11 @@ ghost use Rattle.rng_model.specs.matching.GrammarMatching.{reading_of};
 ghost use Rattle.rng_model.specs.names.NameViews.{name_of};
 ghost use Rattle.rng_expected.specs.Expectations.{IsExpected};
 ghost use Rattle.rng_expected.specs.views.Next.{next_of, tag_of};
+ghost use Rattle.rng_reasons.specs.views.Options.{options_of};
 ghost use Rattle.rng_deriv_events.specs.views.Inputs.{tests_strings};
 ghost use Rattle.rng_deriv_events.specs.views.Positions.{failed_line};
 ghost use Rattle.rng_deriv.specs.views.Alternatives.{alternatives_at, left_here, numbers_at, unless_lost};
-ghost use Rattle.rng_deriv.specs.views.Followers.{HasEndReason, HasStartReason, HaveLeft, MayFollow, MayHave, MayReplace};
+ghost use Rattle.rng_deriv.specs.views.Followers.{HasEndReason, HasStartReason, HasTagOptions, HaveLeft, MayFollow, MayHave, MayReplace};
 ghost use Rattle.rng_deriv.specs.views.Matchers.{HasFailedAt, HasRunOut, IsStateBy, Knows, matching_in, trees_in};
 
 use crate::learned::Learned;
@@ -19,7 +21,9 @@ use rng_deriv_table::PatternNumber;
 use rng_deriv_ways::Context;
 use rng_expected::{Expected, ExpectedTag, expected, expected_tag};
 use rng_model::{Name, OutOfMemory, SimpleGrammar};
-use rng_reasons::{LeftHere, Reason, StartTag, end_reason, start_reason};
+use rng_reasons::{
+    LeftHere, Reason, StartTag, TagBeginning, TagOptions, end_reason, start_reason, tag_options,
+};
 use std::alloc::Global;
 use std::mem;
 
@@ -222,6 +226,64 @@ impl MatcherState {
         learned.lost = false;
         self.progress = progress;
         Ok(reason)
+    }
+
+    /// Returns what a start tag may have after these attributes, by what may come next or could have come before the event
+    /// after which no continuation is valid; and what the value of an attribute of the given name may be there. Returns `None`
+    /// if nothing is left after the attributes.
+    ///
+    /// It is stated on what is left of the pattern (`TagOptions`). What is known of the document stays, in a table that may have
+    /// grown. RELAX NG Specification, sections 6.2.7 and 6.2.8. Fails only when out of memory, in this call or in an earlier
+    /// one; from then on each call fails. Costs what `tag_options` of `rng_reasons` costs.
+    pub fn tag_options<'g>(
+        &mut self,
+        alloc: Global,
+        grammar: &'g SimpleGrammar,
+        tag: &StartTag<'_>,
+        named: &Name,
+    ) -> Result<Option<TagOptions<'g>>, OutOfMemory>
+        requires { IsStateBy grammar.now self.old }
+        ensures state { IsStateBy grammar.now self.new }
+        ensures knows { OnOk result ((es : List trees.Event) → Knows (matching_in grammar.now self.old) es
+            → Knows (matching_in grammar.now self.new) es) }
+        ensures same { OnOk result (self.new.progress ≡ self.old.progress) }
+        ensures options { IfOk result (λ o. (es : List trees.Event) → Knows (matching_in grammar.now self.old) es
+            → HasTagOptions (reading_of grammar.now) self.old.progress (trees_in (matching_in grammar.now self.new))
+            (name_of tag.now.name.now) (map attribute_of tag.now.attrs.now) (name_of named.now) (option_map options_of o) es) }
+        ensures lost { OnErr result (HasRunOut (matching_in grammar.now self.new)) }
+        ensures again { HasRunOut (matching_in grammar.now self.old) → IsErr result }
+    {
+        let progress = mem::replace(&mut self.progress, Progress::Lost);
+        let Some(left) = progress.innermost() else {
+            return Err(OutOfMemory);
+        };
+        let learned = &mut *self.learned;
+        if learned.lost {
+            return Err(OutOfMemory);
+        }
+        let context = Context {
+            alloc,
+            grammar,
+            keys: &learned.keys,
+            numbers: learned.numbers.as_slice(),
+        };
+        let begun = TagBeginning {
+            alternatives: left.alternatives,
+            name: tag.name,
+            attrs: tag.attrs,
+            named,
+        };
+        learned.lost = true;
+        let options = tag_options(
+            &context,
+            grammar,
+            &mut learned.table,
+            &mut learned.known,
+            &begun,
+        )?;
+        learned.lost = false;
+        self.progress = progress;
+        Ok(options)
     }
 
     /// Returns why an end tag leaves nothing, where it may not come: what `start_reason` does of a start tag.

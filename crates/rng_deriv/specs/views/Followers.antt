@@ -13,6 +13,7 @@ use Rattle.rng_deriv_laws.specs.plain.Outcomes.{FailsAt}
 use Rattle.rng_expected.specs.Expectations.{IsExpected, Next}
 use Rattle.rng_expected.specs.Tags.{IsTag, Tag}
 use Rattle.rng_reasons.specs.Reasons.{Alternatives, IsEndReason, IsStartReason}
+use Rattle.rng_reasons.specs.TagOptions.{IsTagOptionsOf, Options}
 use Rattle.rng_reasons.specs.declared.reasons.Reason.{Reason}
 use Rattle.rng_deriv_events.specs.declared.progress.Progress.{Progress}
 use Rattle.rng_deriv_events.specs.declared.progress.Progress.TheVariants as progress
@@ -47,6 +48,11 @@ MayHave g p q tag es = HaveLeft g (λ left. IsTag g left.behind q tag) p es
 -- patterns among these trees.
 abbrev pub HasStartReason : Reading → Progress → List (Simple ℕ) → Name → List Attribute → Option Reason → List Event → Type 0
 HasStartReason g p trees q xs reason es = HaveLeft g (λ left. IsStartReason g trees q xs left reason) p es
+
+-- This is what a start tag of this name may have after these attributes, and what the value of an attribute with the second
+-- name may be. What is left after the attributes is told by patterns among these trees.
+abbrev pub HasTagOptions : Reading → Progress → List (Simple ℕ) → Name → List Attribute → Name → Option Options → List Event → Type 0
+HasTagOptions g p trees q xs named options es = HaveLeft g (λ left. IsTagOptionsOf g trees left.behind q xs named options) p es
 
 -- this is why an end leaves nothing of it, where it may not come
 abbrev pub HasEndReason : Reading → Progress → Reason → List Event → Type 0
