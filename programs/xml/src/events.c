@@ -169,12 +169,12 @@ static OUT_OF_LINE void take_any_text(struct reader *reader, const xmlChar *text
 /* Takes a piece of text. This is called most often: if the piece is usual, no registers are saved, and nothing is called before the receiver. */
 static void take_text(void *context, const xmlChar *text, int size) {
     struct reader *reader = context;
-    size_t length = size > 0 ? (size_t)size : 0;
+    size_t length = (size_t)size;
     if (!is_good(reader)) {
         return;
     }
-    if (length == 0 || reader->unasked + length > ASKED_BYTES || !is_raw(reader, text)) {
-        take_any_text(reader, text, length);
+    if (size <= 0 || reader->unasked + length > ASKED_BYTES || !is_raw(reader, text)) {
+        take_any_text(reader, text, size > 0 ? length : 0);
         return;
     }
     reader->unasked += length;
@@ -465,21 +465,21 @@ static OUT_OF_LINE void take_any_start(void *context, const xmlChar *local, cons
     reader->is_unusual = reader->declarations.default_count > 0 || reader->withdrawn.count > 0;
 }
 
-/* Whether a start tag is usual: in the document, of a known name, with nothing that is declared or that is there by default. `searched` is then what is
- * counted of namespaces after it. */
-static inline bool is_usual_start(const struct reader *reader, bool is_named, int namespace_count, int default_count, uint64_t searched) {
+/* Whether a start tag is usual: in the document, of a known name, with nothing that is declared or that is there by default. */
+static inline bool is_usual_start(const struct reader *reader, bool is_named, int namespace_count, int default_count, int attribute_count) {
     bool is_plain = is_named && namespace_count == 0 && default_count == 0 && !reader->is_unusual;
-    return is_plain && is_in_content(reader) && reader->start.depth < reader->most_depth && searched <= SEARCHED;
+    return is_plain && is_in_content(reader) && reader->start.depth < reader->most_depth &&
+           reader->searched + searched_for(reader, attribute_count) <= SEARCHED;
 }
 
 /* Hands a usual start to the receiver, whose attributes are set. */
-static inline void hand_usual_start(struct reader *reader, const struct event_name *name, size_t attribute_count, uint64_t searched) {
+static inline void hand_usual_start(struct reader *reader, const struct event_name *name, int attribute_count) {
     set_tag(reader);
     reader->start.depth++;
-    reader->searched = searched;
+    reader->searched += searched_for(reader, attribute_count);
     reader->start.name = name;
     reader->start.declaration_count = 0;
-    reader->start.attribute_count = attribute_count;
+    reader->start.attribute_count = (size_t)attribute_count;
     reader->sink.start(reader->sink.context, &reader->start);
 }
 
@@ -506,12 +506,12 @@ static OUT_OF_LINE void take_full_start(void *context, const xmlChar *local, con
     struct reader *reader = context;
     size_t place = known_place(local);
     bool is_named = is_known(&reader->names, place, local, prefix, uri);
-    uint64_t searched = reader->searched + searched_for(reader, attribute_count);
     if (!is_good(reader)) {
         return;
     }
-    if (is_usual_start(reader, is_named, namespace_count, default_count, searched) && set_known_attributes(reader, (size_t)attribute_count, attributes)) {
-        hand_usual_start(reader, &reader->names.slots[place].name, (size_t)attribute_count, searched);
+    if (is_usual_start(reader, is_named, namespace_count, default_count, attribute_count) &&
+        set_known_attributes(reader, (size_t)attribute_count, attributes)) {
+        hand_usual_start(reader, &reader->names.slots[place].name, attribute_count);
     } else {
         take_any_start(context, local, prefix, uri, namespace_count, namespaces, attribute_count, default_count, attributes);
     }
@@ -522,10 +522,8 @@ static void take_start(void *context, const xmlChar *local, const xmlChar *prefi
                        int attribute_count, int default_count, const xmlChar **attributes) {
     struct reader *reader = context;
     size_t place = known_place(local);
-    uint64_t searched = reader->searched + searched_for(reader, 0);
-    bool has_none = attribute_count == 0 && is_good(reader);
-    if (has_none && is_usual_start(reader, is_known(&reader->names, place, local, prefix, uri), namespace_count, 0, searched)) {
-        hand_usual_start(reader, &reader->names.slots[place].name, 0, searched);
+    if (attribute_count == 0 && is_good(reader) && is_usual_start(reader, is_known(&reader->names, place, local, prefix, uri), namespace_count, 0, 0)) {
+        hand_usual_start(reader, &reader->names.slots[place].name, 0);
         return;
     }
     take_full_start(context, local, prefix, uri, namespace_count, namespaces, attribute_count, default_count, attributes);
