@@ -1,5 +1,6 @@
 // Documents that are told by calls.
 ghost use Rattle.std.specs.Prelude.{◌≡◌, ◌⊎◌, [], ◌∷◌, ◌++◌, ℕ, List, IfErr, IfOk, IfSome, IsErrOf, OnErr, OnOk, Some, None, Err, false, length, map, unwrap_or};
+ghost use Rattle.std.specs.Option.{option_map};
 ghost use Rattle.rng_model.specs.schema.Schema.{Schema};
 ghost use Rattle.rng_model.specs.xsd.SchemasWith.{IsValidBySchemaWith};
 ghost use Rattle.rng_model.specs.declared.type_set.TypeSet.{TypeSet};
@@ -7,8 +8,9 @@ ghost use Rattle.rng_model.specs.documents.PyxTrees.{Event, a_string, an_end};
 ghost use Rattle.rncv_model.specs.answers.Verdict.{IsUnknownIn};
 ghost use Rattle.rng_model.specs.matching.GrammarMatching.{reading_of};
 ghost use Rattle.rng_expected.specs.views.Next.{next_of, tag_of};
+ghost use Rattle.rng_reasons.specs.views.Options.{options_of};
 ghost use Rattle.rng_deriv_events.specs.views.Inputs.{tests_strings};
-ghost use Rattle.rng_deriv.specs.views.Followers.{HasEndReason, HasStartReason, MayFollow, MayHave, MayReplace};
+ghost use Rattle.rng_deriv.specs.views.Followers.{HasEndReason, HasStartReason, HasTagOptions, MayFollow, MayHave, MayReplace};
 ghost use Rattle.rng_deriv.specs.views.Matchers.{Knows, trees_in};
 ghost use Rattle.rng_deriv_events.specs.views.NextEnds.{TellsEnd};
 ghost use Rattle.rncv_events.specs.views.Ending.{IsWhyNoEnd};
@@ -26,7 +28,7 @@ use rncv_validator::Validator;
 use rng_deriv::{Matcher, MatcherState};
 use rng_expected::{Expected, ExpectedTag};
 use rng_model::{OutOfMemory, Outcome, SimpleGrammar};
-use rng_reasons::{Reason, StartTag};
+use rng_reasons::{Reason, StartTag, TagOptions};
 use std::alloc::Global;
 use std::marker::Model;
 use std::sync::Arc;
@@ -311,6 +313,58 @@ impl EventDocument {
         };
         self.state = Some(state);
         Ok(reason)
+    }
+
+    /// Returns the grammar of the schema by which the document is judged. It is shared. Fails only when out of memory.
+    pub fn grammar(&self) -> Result<Arc<SimpleGrammar>, OutOfMemory>
+        ensures { IfOk result (λ grammar. grammar.value ≡ self.now.grammar) }
+    {
+        match Arc::try_clone(&self.grammar) {
+            Ok(grammar) => Ok(grammar),
+            Err(_) => Err(OutOfMemory),
+        }
+    }
+
+    /// Returns what a start of this name may have after these attributes, or `None` if nothing is left after them, and what the
+    /// value of an attribute with the other name may be there. The grammar is that of the document. If `invalid_since` returns
+    /// a place, it is about what could have come before that event: if the event is this start, and an attribute is at fault,
+    /// the attributes before it tell what could have been in its place.
+    ///
+    /// It is stated on what is left of the pattern (`TagOptions`), as `expected_tag` is. The calls that were taken stay. Fails
+    /// only when out of memory, in this call or in an earlier one. Then what is kept is unchanged, or each later call fails.
+    /// Costs a copy of the names and the attributes, and what `MatcherState::tag_options` costs. RELAX NG Specification,
+    /// sections 6.2.7 and 6.2.8.
+    pub fn tag_options<'g>(
+        &mut self,
+        grammar: &'g SimpleGrammar,
+        name: ExpandedName<'_>,
+        attributes: &[Attribute<'_>],
+        named: ExpandedName<'_>,
+    ) -> Result<Option<TagOptions<'g>>, OutOfMemory>
+        requires { grammar.now ≡ self.old.grammar }
+        ensures knows { StillKnows self.old self.new }
+        ensures same { OnOk result ((self.new.fault ≡ self.old.fault) × (self.new.matching.progress ≡ self.old.matching.progress)) }
+        ensures options { IfOk result (λ o. (calls : List Event) (taken : HasTaken self.old calls)
+            → HasTagOptions (reading_of self.old.grammar) self.old.matching.progress (trees_in self.new.matching)
+            (name_told name.entry) (map attribute_told attributes.now) (name_told named.entry) (option_map options_of o) taken.events) }
+        ensures failed { OnErr result ((self.new ≡ self.old) ⊎ (self.new.fault ≡ Some EventFault.Memory)) }
+    {
+        let name = copied_name(self.alloc, name)?;
+        let attrs = copied_attributes(self.alloc, attributes)?;
+        let named = copied_name(self.alloc, named)?;
+        let Some(mut state) = self.state.take() else {
+            return Err(OutOfMemory);
+        };
+        let tag = StartTag {
+            name: &name,
+            attrs: attrs.as_slice(),
+        };
+        let Ok(options) = state.tag_options(self.alloc, grammar, &tag, &named) else {
+            self.fault = Some(EventFault::Memory);
+            return Err(OutOfMemory);
+        };
+        self.state = Some(state);
+        Ok(options)
     }
 
     /// Returns why an end leaves nothing of what may come next, or `None` exactly if it leaves something. If `invalid_since`

@@ -1,4 +1,4 @@
-use Rattle.std.proofs.Common.{◌∙◌, ap, length, sym}
+use Rattle.std.proofs.Common.{◌∙◌, ap, length}
 use Rattle.rng_deriv_events.specs.views.Inputs.{tests_strings}
 use Rattle.rncv_events.specs.views.Told.{Judging}
 use Rattle.rncv_events.proofs.SettledCalls.{held_nothing}
