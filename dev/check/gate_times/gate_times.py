@@ -112,7 +112,7 @@ def table(seen):
         spans[key] = min(first, it["start"]), max(last, it["end"])
         if it["part"] == "edits":
             edits[it["crate"]][it["folder"]] += it["took"]
-    print("\n| Crate | Proofs | Tests | Check before the edits | Edits | An edit, seconds | Sum |\n|---|---|---|---|---|---|---|")
+    print("\n| Crate | Proofs | Tests | Check before the edits | Edits | An edit, seconds | Sum, if more |\n|---|---|---|---|---|---|---|")
     minutes = lambda seconds: f"{seconds / 60:.1f}" if seconds else ""
     total = [0.0] * 4
     for crate in crates():
@@ -122,7 +122,8 @@ def table(seen):
         row = [took[crate, "proofs"], took[crate, "tests"], sum(first), sum(each[1:])]
         total = [a + b for a, b in zip(total, row)]
         one = f"{sum(more) / len(more):.0f}" if more else ""
-        print(f"| `{crate}` | {' | '.join(map(minutes, row))} | {one} | {minutes(sum(row))} |")
+        whole = minutes(sum(row)) if any(row[1:]) else ""
+        print(f"| `{crate}` | {' | '.join(map(minutes, row))} | {one} | {whole} |")
     print(f"| all | {' | '.join(map(minutes, total))} | | {minutes(sum(total))} |")
     compare(sum(total), took)
     way, length = longest({key: end - start for key, (start, end) in spans.items()})
