@@ -3,8 +3,6 @@ ghost use Rattle.std.specs.Prelude.{◌≡◌, IfOk};
 ghost use Rattle.rng_model.specs.simple.Table.{grammar_of};
 ghost use Rattle.rng_model.specs.restrictions.Restrictions.{BreaksNone};
 ghost use Rattle.rng_deriv_table.specs.views.Trees.{trees};
-ghost use Rattle.rng_model.specs.names.NameViews.{name_of};
-ghost use Rattle.rng_names.specs.plain.Holding.{same_name};
 
 use crate::learned::Learned;
 use crate::pattern_renewal::{Selection, copied, count_start, limit_beside, renewed};
@@ -14,16 +12,9 @@ use rng_deriv_table::{PatternNumber, PatternTable};
 use rng_deriv_texts::{after_tag, after_text};
 use rng_deriv_ways::{Context, Known, start};
 use rng_model::{Attr, Name, OutOfMemory, SimpleGrammar};
-use rng_names::{NameKey, NameKeys};
+use rng_names::{NameKey, NameKeys, is_same_name};
 use std::alloc::Global;
 use std::marker::Model;
-
-/// Returns whether the two names are the same.
-fn is_same(own: &Name, name: &Name) -> bool
-    ensures { result ≡ same_name (name_of own.now) (name_of name.now) }
-{
-    own.local.as_str() == name.local.as_str() && own.ns.as_str() == name.ns.as_str()
-}
 
 /// The patterns of a grammar that obeys the restrictions, and what is left of them, by number.
 ///
@@ -199,7 +190,7 @@ impl Derivatives for GrammarDerivatives<'_> {
         if key.0 >= learned.keys.len() {
             return false;
         }
-        is_same(learned.keys.name(key), name)
+        is_same_name(learned.keys.name(key), name)
     }
 
     fn starts(

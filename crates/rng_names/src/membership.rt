@@ -3,7 +3,7 @@ ghost use Rattle.std.specs.Prelude.{◌≡◌};
 ghost use Rattle.std.specs.Bool.{Decides};
 ghost use Rattle.rng_model.specs.names.Names.{In};
 ghost use Rattle.rng_model.specs.names.NameViews.{class_of, name_of};
-ghost use Rattle.rng_names.specs.plain.Holding.{holds, pair};
+ghost use Rattle.rng_names.specs.plain.Holding.{holds, pair, same_name};
 
 use rng_model::{Name, NameClass};
 
@@ -15,7 +15,10 @@ use rng_model::{Name, NameClass};
 pub fn contains(class: &NameClass, name: &Name) -> bool
     ensures { Decides result (In (class_of class.now) (name_of name.now)) }
 {
-    holds(class, name.ns.as_str(), name.local.as_str())
+    match class {
+        NameClass::Name(only) => is_named(only, name.ns.as_str(), name.local.as_str()),
+        _ => holds(class, name.ns.as_str(), name.local.as_str()),
+    }
 }
 
 /// Returns whether the class holds the name with this namespace and this local name.
@@ -27,7 +30,7 @@ pub fn holds(class: &NameClass, ns: &str, local: &str) -> bool
         NameClass::AnyExcept(except) => !holds(except, ns, local),
         NameClass::Ns(only) => only.as_str() == ns,
         NameClass::NsExcept(only, except) => only.as_str() == ns && !holds(except, ns, local),
-        NameClass::Name(only) => only.local.as_str() == local && only.ns.as_str() == ns,
+        NameClass::Name(only) => is_named(only, ns, local),
         NameClass::Choice(members) => {
             'members: for member in members {
                 if holds(member, ns, local) {
@@ -39,10 +42,24 @@ pub fn holds(class: &NameClass, ns: &str, local: &str) -> bool
     }
 }
 
+// whether the name has this namespace and this local name
+fn is_named(name: &Name, ns: &str, local: &str) -> bool
+    ensures { result ≡ same_name (name_of name.now) (pair ns.now local.now) }
+{
+    name.local.as_str() == local && is_same_namespace(name.ns.as_str(), ns)
+}
+
 /// Returns whether two names are equal. Reads their namespaces only if their local names are equal, since a namespace
 /// may be long and many names share it. Allocates nothing.
 pub fn is_same_name(one: &Name, other: &Name) -> bool
     ensures { Decides result (name_of one.now ≡ name_of other.now) }
 {
-    one.local == other.local && one.ns == other.ns
+    one.local == other.local && is_same_namespace(one.ns.as_str(), other.ns.as_str())
+}
+
+// whether two namespaces are equal; most names have none, and then nothing is compared
+fn is_same_namespace(one: &str, other: &str) -> bool
+    ensures { Decides result (one.now ≡ other.now) }
+{
+    (one.is_empty() && other.is_empty()) || one == other
 }

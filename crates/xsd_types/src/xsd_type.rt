@@ -5,6 +5,8 @@ ghost use Rattle.rng_model.specs.datatypes.Datatypes.{is_allowed_by, are_equal_b
 ghost use Rattle.rng_model.specs.regexes.Patterns.{other_parameters};
 ghost use Rattle.rng_model.specs.xsd.Datatypes.{meaning_named};
 ghost use Rattle.rng_model.proofs.ValueLaws as laws;
+ghost use Rattle.xsd_automaton.specs.views.WhiteSpace.{treated};
+ghost use Rattle.xsd_patterns.specs.Facet.{all_match, expressions_of};
 ghost use Rattle.xsd_types.specs.views.View.{meaning_by, plain_meaning};
 ghost use Rattle.xsd_types.specs.views.Kinds.{maker_of, plain_maker};
 ghost use Rattle.xsd_types.specs.views.Finding.{HasFault, IsMade};
@@ -77,6 +79,14 @@ fn without_patterns(
     }
 }
 
+// whether the text matches each of the patterns; most datatypes have none, and then no room is made for a matcher
+#[inline(always)]
+fn match_all(patterns: &Patterns, text: &str) -> bool
+    ensures { result ≡ all_match (expressions_of patterns.now.expressions.items) (treated patterns.now.white_space) text.now }
+{
+    patterns.expressions.as_slice().is_empty() || patterns.match_all(text)
+}
+
 impl Datatype for XsdType {
     ghost allows = { λ d s. is_allowed_by (meaning_by d) s };
 
@@ -91,10 +101,10 @@ impl Datatype for XsdType {
     ghost equal_transitive = { λ d u v w e f. laws.equal_transitive (meaning_by d) u v w e f };
 
     fn allows(&self, text: &str) -> bool {
-        self.plain.allows(text) && self.patterns.match_all(text)
+        self.plain.allows(text) && match_all(&self.patterns, text)
     }
 
     fn equal(&self, a: &str, b: &str) -> bool {
-        self.plain.equal(a, b) && self.patterns.match_all(a) && self.patterns.match_all(b)
+        self.plain.equal(a, b) && match_all(&self.patterns, a) && match_all(&self.patterns, b)
     }
 }
