@@ -64,7 +64,7 @@ def completion(asked: Asked, is_profile: bool) -> Optional[Dict[str, Any]]:
     spot = spot_of(asked) if asked.grammars.outlines[asked.key].parts else None
     if spot is None:
         return None
-    place = asked.lines(asked.key).range(spot.start, asked.offset)
+    place = asked.grammars.files[asked.key].lines.range(spot.start, asked.offset, asked.encoding)
     every = list(dict.fromkeys(items(asked, spot, is_profile)))
     found = fitting(every, spot.typed.lstrip("\\")) if len(every) > MOST_NAMES else every
     return {"isIncomplete": found is not every, "items": [{"label": text, "kind": kind, "textEdit": {"range": place, "newText": text}} for text, kind in found]}
@@ -73,8 +73,9 @@ def completion(asked: Asked, is_profile: bool) -> Optional[Dict[str, Any]]:
 def fitting(every: List[Item], typed: str) -> List[Item]:
     """Those of many items that have the letters that are typed, and not all names. Those that begin with what is typed come first."""
     found = [item for item in every if has_letters(item[0], typed)]
-    names_found = sorted((item for item in found if item[1] == NAME), key=lambda item: not item[0].startswith(typed))
-    return [*names_found[:MOST_NAMES], *(item for item in found if item[1] != NAME)]
+    first = [item for item in found if item[1] == NAME and item[0].startswith(typed)]
+    then = [item for item in found if item[1] == NAME and not item[0].startswith(typed)]
+    return [*[*first, *then][:MOST_NAMES], *(item for item in found if item[1] != NAME)]
 
 
 def items(asked: Asked, spot: Spot, is_profile: bool) -> Iterable[Item]:

@@ -189,9 +189,10 @@ class Grammars:
 
     def visible(self, nodes: Iterable[Node]) -> List[str]:
         """The names that are defined in the grammars of these nodes."""
-        sharing = dict.fromkeys(each for node in nodes for each in self._sharing(node))
-        keys = dict.fromkeys(key for key, _ in sharing)
-        return list(dict.fromkeys(text for key in keys for text, scope in self.outlines[key].texts_of(DEFINE) if (key, scope) in sharing))
+        scopes: Dict[str, Set[int]] = {}
+        for key, scope in (each for node in nodes for each in self._sharing(node)):
+            scopes.setdefault(key, set()).add(scope)
+        return list(dict.fromkeys(text for key in scopes for text in self.outlines[key].defined(scopes[key])))
 
 
 def reached(node: Node, steps: Callable[[Node], Iterable[Node]]) -> List[Node]:

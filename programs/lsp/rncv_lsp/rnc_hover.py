@@ -6,7 +6,7 @@ from typing import Any, Dict, List, NamedTuple, Optional, Set, Tuple
 
 from rncv_lsp.rnc_grammars import Grammars, Place
 from rncv_lsp.rnc_names import DECLARED_BY, IN_GRAMMARS, Asked
-from rncv_lsp.rnc_outline import ATTRIBUTE, DATATYPE, DEFINE, ELEMENT, SPACE, START
+from rncv_lsp.rnc_outline import ATTRIBUTE, DATATYPE, ELEMENT, SPACE
 from rncv_lsp.rnc_types import XSD
 
 XML_NAMESPACE = "http://www.w3.org/XML/1998/namespace"
@@ -34,7 +34,7 @@ def hover(asked: Asked, is_markdown: bool) -> Optional[Dict[str, Any]]:
         return None
     words = [marked(part) if is_markdown else part.text for part in parts]
     contents = {"kind": "markdown" if is_markdown else "plaintext", "value": "\n\n".join(words)}
-    return {"contents": contents, "range": asked.lines(asked.key).range(place.name.start, place.name.end)}
+    return {"contents": contents, "range": asked.grammars.files[asked.key].lines.range(place.name.start, place.name.end, asked.encoding)}
 
 
 def marked(part: Shown) -> str:
@@ -56,13 +56,14 @@ def defined(asked: Asked, place: Place) -> List[Shown]:
 def source(asked: Asked, place: Place) -> List[Shown]:
     """The lines of a definition, and its documentation."""
     outline, text = asked.grammars.outlines[place.key], asked.grammars.files[place.key].lines.text
-    component = next((each for each in outline.components if each.opened.kind in (DEFINE, START) and each.opened.name_start == place.name.start), None)
+    component = outline.component(place.name.start)
     if component is None:
         return []
-    lines = text[component.opened.name_start:component.end].splitlines()
+    start, end = component
+    lines = text[place.name.start:end].splitlines()
     words = "\n".join(lines[:MOST_LINES])
     is_cut = len(lines) > MOST_LINES or len(words) > MOST_CHARACTERS
-    documented = DOCUMENTATION.findall(text[component.opened.start:component.opened.name_start])
+    documented = DOCUMENTATION.findall(text[start:place.name.start])
     documentation = "\n".join(documented).strip()[:MOST_CHARACTERS]
     shown = Shown(words[:MOST_CHARACTERS] + ("\n.." if is_cut else ""), True)
     return [shown, Shown(documentation)] if documentation else [shown]

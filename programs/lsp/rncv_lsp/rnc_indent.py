@@ -4,13 +4,14 @@ It is found part by part. What a part gets depends on the levels before it, and 
 a keystroke only the part around it is gone through again."""
 from __future__ import annotations
 
-import bisect
 import re
-from typing import Dict, Iterator, List, NamedTuple, Tuple
+from typing import Dict, Iterator, List, NamedTuple, Optional, Tuple
 
 from rncv_lsp.rnc_outline import DEFINE, START
 from rncv_lsp.rnc_parts import Outline, Part
+from rncv_lsp.rnc_places import Lines
 from rncv_lsp.rnc_tokens import CNAME, LITERAL, OPEN, SIGN, WORD, Token, lexed
+from rncv_lsp.rpc import Written
 from rncv_lsp.texts import LINE_END
 
 BLANKS = re.compile("[ \t]*")
@@ -169,22 +170,34 @@ class Indenter:
 
 def indented(outline: Outline, unit: str) -> List[Line]:
     """The blanks at the beginning of lines that change: where they are, and what is there instead."""
-    ends = [(each.opened.name_start, each.end) for each in outline.components if each.opened.kind in (DEFINE, START)]
     levels: Levels = (Level("", "", "", ""),)
     found: List[Line] = []
-    for begin, part in outline.placed():
-        end = begin + part.length
-        behind = BLANKS.match(outline.lines.text, end).end()  # type: ignore[union-attr]
-        first, last = (bisect.bisect_left(ends, (place,)) for place in (begin, end))
-        definitions = tuple((start - begin, upto - begin) for start, upto in ends[first:last])
-        is_definition_behind = last < len(ends) and ends[last][0] == behind
-        around = Around(unit, levels, definitions, behind - begin, is_definition_behind, end == outline.lines.length)
-        part_found = indented_part(part, outline.lines.text[begin:end], around)
+    for number, (begin, part) in enumerate(outline.placed()):
+        part_found = indented_part(part, outline.lines.text[begin:begin + part.length], around_of(outline, number, unit, levels))
         if not part_found.is_sure:
             return []
         found += [Line(line.start + begin, line.first + begin, line.blanks) for line in part_found.lines]
         levels = part_found.levels
     return found if len(levels) == 1 else []
+
+
+def edits(found: List[Line], lines: Lines, first: int, last: Optional[int]) -> Written:
+    """The edits of these lines, as far as they are not before the first line nor behind the last one. They begin with ASCII."""
+    numbered = ((lines.line(line.start), line.first - line.start, line.blanks.replace("\t", "\\t")) for line in found)
+    return Written("[" + ",".join([
+        f'{{"range":{{"start":{{"line":{number},"character":0}},"end":{{"line":{number},"character":{length}}}}},"newText":"{blanks}"}}'
+        for number, length, blanks in numbered if first <= number and (last is None or number <= last)]) + "]")
+
+
+def around_of(outline: Outline, number: int, unit: str, levels: Levels) -> Around:
+    """What is around a part with this number, if these levels are before it."""
+    begin, length = outline.starts[number], outline.parts[number].length
+    behind = BLANKS.match(outline.lines.text, begin + length).end() - begin  # type: ignore[union-attr]
+    definitions = tuple((opened.name_start, end) for opened, end in outline.spans_in(number) if opened.kind in (DEFINE, START))
+    following = outline.parts[number + 1].opened if number + 1 < len(outline.parts) else []
+    starts = (opened.name_start for opened in following if opened.kind in (DEFINE, START))
+    is_definition_behind = next(starts, -1) == behind - length
+    return Around(unit, levels, definitions, behind, is_definition_behind, begin + length == outline.lines.length)
 
 
 def indented_part(part: Part, words: str, around: Around) -> Indented:

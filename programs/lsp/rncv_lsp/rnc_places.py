@@ -11,7 +11,7 @@ class Lines:
     """The lines of a text, in one of the protocol's encodings."""
 
     def __init__(self, text: Text, encoding: str) -> None:
-        self._text, self._encoding = text.text, encoding
+        self._text, self.encoding, self.length = text.text, encoding, text.length
         self._is_plain = encoding == "utf-32" or self._text.isascii()
         self.starts: List[int] = [0]
         begin = 0
@@ -27,7 +27,7 @@ class Lines:
         """The position of an offset."""
         line = self.line(offset)
         start = self.starts[line]
-        return {"line": line, "character": offset - start if self._is_plain else units(self._text[start:offset], self._encoding)}
+        return {"line": line, "character": offset - start if self._is_plain else units(self._text[start:offset], self.encoding)}
 
     def range(self, start: int, end: int) -> Dict[str, Any]:
         """The range between two offsets. An outline has thousands of them, so nothing is called where characters are units."""

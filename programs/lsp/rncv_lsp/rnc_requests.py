@@ -2,17 +2,18 @@
 from __future__ import annotations
 
 import itertools
-from typing import Any, Callable, Dict, List, Optional
+from typing import Any, Callable, Dict, List, Optional, Union
 
 from rncv_lsp.documents import SCHEMA_LANGUAGES, Document, Documents
 from rncv_lsp.rnc_completion import completion
 from rncv_lsp.rnc_grammars import Grammars, Outlines
 from rncv_lsp.rnc_hover import hover
-from rncv_lsp.rnc_indent import indented
+from rncv_lsp.rnc_indent import edits, indented
 from rncv_lsp.rnc_names import Asked, definition, highlights, prepared, references, rename
 from rncv_lsp.rnc_places import Lines
 from rncv_lsp.rnc_symbols import MOST_SYMBOLS, flat, foldings, tree
-from rncv_lsp.rpc import Connection, Handler, member
+from rncv_lsp.rnc_tree import written_tree
+from rncv_lsp.rpc import Connection, Handler, Written, member
 from rncv_lsp.schema_files import Disk, opened
 
 MOST_BLANKS = 16
@@ -81,6 +82,15 @@ class SchemaRequests:
         if found:
             connection.ask("client/registerCapability", {"registrations": found}, lambda result: None)
 
+    def read(self, document: Document) -> None:
+        """Reads a schema that was opened, and the files that it reaches, so that the first answer takes no longer than others."""
+        if document.is_schema:
+            self._grammars()
+
+    def _grammars(self) -> Grammars:
+        """The grammars of the schemas that are open."""
+        return Grammars(self._documents.snapshot(), self._disk, self._outlines)
+
     def _schema(self, params: Any) -> Optional[Document]:
         """The open schema that is asked about, if it is one."""
         document = self._documents.current(member(member(params, "textDocument", dict), "uri", str))
@@ -92,8 +102,7 @@ class SchemaRequests:
         line, character = (max(0, member(place, name, int)) for name in ("line", "character"))
         if document is None:
             return None
-        grammars = Grammars(self._documents.snapshot(), self._disk, self._outlines)
-        return Asked(grammars, document.key, document.lines.offset(line, character, self._documents.encoding), self._documents.encoding)
+        return Asked(self._grammars(), document.key, document.lines.offset(line, character, self._documents.encoding), self._documents.encoding)
 
     def _answer(self, params: Any, answer: Callable[[Asked], Any]) -> Any:
         """The answer to the question about a position."""
@@ -115,33 +124,30 @@ class SchemaRequests:
         versions = {document.uri: document.version for document in self._documents.snapshot()}
         return {"documentChanges": [{"textDocument": {"uri": uri, "version": versions.get(uri)}, "edits": each} for uri, each in edits.items()]}
 
-    def _symbols(self, params: Any) -> Optional[List[Dict[str, Any]]]:
+    def _symbols(self, params: Any) -> Union[Written, List[Dict[str, Any]], None]:
         """The outline of a schema."""
         document = self._schema(params)
         if document is None:
             return None
         outline, lines = self._outlines.of(opened(document)), Lines(document.lines, self._documents.encoding)
-        return tree(outline, lines) if self._has_tree else list(flat(outline, lines, document.uri))
+        return (written_tree(outline, lines) or tree(outline, lines)) if self._has_tree else list(flat(outline, lines, document.uri))
 
-    def _foldings(self, params: Any) -> Optional[List[Dict[str, Any]]]:
+    def _foldings(self, params: Any) -> Optional[Written]:
         """What can be folded in a schema."""
         document = self._schema(params)
         if document is None:
             return None
-        found = foldings(self._outlines.of(opened(document)), Lines(document.lines, self._documents.encoding))
-        return found[:self._most_foldings]
+        return foldings(self._outlines.of(opened(document)), Lines(document.lines, self._documents.encoding), self._most_foldings)
 
-    def _format(self, params: Any, place: Any = None) -> Optional[List[Dict[str, Any]]]:
+    def _format(self, params: Any, place: Any = None) -> Optional[Written]:
         """The edits that indent a schema, or the lines of a range."""
         document, options = self._schema(params), member(params, "options", dict)
         size = max(1, min(member(options, "tabSize", int), MOST_BLANKS))
         first, last = (member(member(place, end, dict), "line", int) for end in ("start", "end")) if place is not None else (0, None)
         if document is None:
             return None
-        lines = Lines(document.lines, self._documents.encoding)
         found = indented(self._outlines.of(opened(document)), "\t" if options.get("insertSpaces") is False else " " * size)
-        reported = [{"range": lines.range(line.start, line.first), "newText": line.blanks} for line in found]
-        return [each for each in reported if first <= each["range"]["start"]["line"] and (last is None or each["range"]["start"]["line"] <= last)]
+        return edits(found, Lines(document.lines, self._documents.encoding), first, last)
 
     def _workspace_symbols(self, params: Any) -> List[Dict[str, Any]]:
         """The components of the open schemas whose names fit a query."""

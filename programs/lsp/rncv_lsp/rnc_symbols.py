@@ -2,11 +2,12 @@
 from __future__ import annotations
 
 import functools
-from typing import Any, Dict, Iterator, List, Tuple
+from typing import Any, Dict, Iterator, List, Optional, Set, Tuple
 
 from rncv_lsp.rnc_outline import DEFINE, ELEMENT, INCLUDE, START
-from rncv_lsp.rnc_parts import Component, Outline
+from rncv_lsp.rnc_parts import Component, Outline, close_bracket, joined_lines
 from rncv_lsp.rnc_places import Lines
+from rncv_lsp.rpc import Written
 
 # Kinds of the protocol: by the kind of component, and for definitions by the keyword of their pattern.
 FUNCTION, MODULE, NAMESPACE, PACKAGE, CLASS, PROPERTY, STRUCT, FILE, TYPE = 12, 2, 3, 4, 5, 7, 23, 1, 26
@@ -68,43 +69,37 @@ def flat(outline: Outline, lines: Lines, uri: str, query: str = "") -> Iterator[
 
 def has_letters(text: str, query: str) -> bool:
     """Whether a text has the letters of a query in this order, in either case."""
-    letters = iter(text.lower())
-    return all(letter in letters for letter in query.lower())
+    lower, at = text.lower(), 0
+    for letter in query.lower():
+        at = lower.find(letter, at) + 1
+        if at == 0:
+            return False
+    return True
 
 
-def braces(outline: Outline, lines: Lines) -> Iterator[Tuple[int, int]]:
-    """The lines of the pairs of braces and of brackets. One that has no partner is skipped."""
+def braces(outline: Outline, lines: Lines) -> Set[Tuple[int, int]]:
+    """The lines of the pairs of braces and of brackets that are not on one line."""
     waiting: List[Tuple[int, str]] = []
+    found: List[Tuple[int, int]] = []
     for begin, part in outline.placed():
         above = lines.line(begin)
-        for line, sign in part.scan.braces:
-            if sign in "{[":
-                waiting.append((above + line, sign))
-                continue
-            while sign == "}" and waiting and waiting[-1][1] == "[":
-                waiting.pop()
-            if waiting and waiting[-1][1] == ("{" if sign == "}" else "["):
-                yield waiting.pop()[0], above + line
+        found += [(above + start, above + end) for start, end in part.brackets.pairs]
+        for line, sign in part.brackets.outer:
+            close_bracket(waiting, above + line, sign, found)
+        waiting += [(above + line, sign) for line, sign in part.brackets.open]
+    return set(found)
 
 
 def comment_lines(outline: Outline, lines: Lines) -> Iterator[Tuple[int, int]]:
     """The first and the last line of each block of comments."""
-    first, last = -1, -2
-    for begin, part in outline.placed():
-        above = lines.line(begin)
-        for start, end in part.scan.comments:
-            if above + start > last + 1:
-                if last > first:
-                    yield first, last
-                first = above + start
-            last = above + end
-    if last > first:
-        yield first, last
+    above = ((lines.line(begin), part) for begin, part in outline.placed())
+    return joined_lines((line + start, line + end) for line, part in above for start, end in part.blocks)
 
 
-def foldings(outline: Outline, lines: Lines) -> List[Dict[str, Any]]:
-    """The ranges that can be folded: between braces that are on different lines, whose last line stays, and blocks of comments."""
-    pairs = {(start, end - 1) for start, end in braces(outline, lines) if end - 1 > start}
-    found = [{"startLine": start, "endLine": end} for start, end in pairs]
-    comments = [{"startLine": first, "endLine": last, "kind": "comment"} for first, last in comment_lines(outline, lines)]
-    return sorted([*found, *comments], key=lambda reported: (reported["startLine"], -reported["endLine"]))
+def foldings(outline: Outline, lines: Lines, most: Optional[int]) -> Written:
+    """The ranges that can be folded: between braces that are on different lines, whose last line stays, and blocks of comments. If there are many, the first
+    ones."""
+    pairs = [(start, 1 - end, "") for start, end in braces(outline, lines) if end - 1 > start]
+    comments = [(first, -last, ',"kind":"comment"') for first, last in comment_lines(outline, lines) if last > first]
+    found = sorted([*pairs, *comments])[:most]
+    return Written("[" + ",".join([f'{{"startLine":{start},"endLine":{-end}{kind}}}' for start, end, kind in found]) + "]")

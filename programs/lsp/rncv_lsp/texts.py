@@ -33,6 +33,15 @@ def index_after(text: str, count: int, encoding: str) -> int:
     return low
 
 
+def common(first: str, second: str) -> int:
+    """How many characters at the beginning of two texts are the same."""
+    low, high = 0, min(len(first), len(second))
+    while low < high:
+        middle = (low + high + 1) // 2
+        low, high = (middle, high) if first[low:middle] == second[low:middle] else (low, middle - 1)
+    return low
+
+
 class Piece:
     """A part of a text. Its line ends are counted at once, and searched only if they are needed."""
 
@@ -130,6 +139,14 @@ class Text:
                 break
             shared += mine.length
         return shared >= length or self.slice(shared, length) == other.slice(shared, length)
+
+    def shared(self, other: Text) -> Tuple[int, int]:
+        """How many characters are the same at the beginning of two texts, and at their end. Pieces that both have are not compared."""
+        length = min(self.length, other.length)
+        first, last = (min(length, sum(mine.length for mine, _ in itertools.takewhile(lambda pair: pair[0] is pair[1], pairs)))
+                       for pairs in (zip(self.pieces, other.pieces), zip(reversed(self.pieces), reversed(other.pieces))))
+        mine, its = self.slice(first, self.length - last), other.slice(first, other.length - last)
+        return first + common(mine, its), last + common(mine[::-1], its[::-1])
 
     def line_start(self, line: int) -> int:
         """Where a line (counted from 0) begins."""
