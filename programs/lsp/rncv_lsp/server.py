@@ -122,10 +122,12 @@ class Server:
         document = new_document(member(params, "textDocument", dict))
         self._documents.open(document)
         self._coordinator.touch(document)
+        self._schemas.read(document)
 
     def _changed(self, params: Any) -> None:
         """A document has changed."""
         document = self._documents.change(member(params, "textDocument", dict), member(params, "contentChanges", list))
+        self._answers.changed(document)
         self._coordinator.touch(document)
 
     def _closed(self, params: Any) -> None:

@@ -21,8 +21,9 @@ from rncv_lsp.texts import Text
 from rncv_lsp.xml_completion import Asked, Completion, Knowledge, attribute_name
 from rncv_lsp.xml_cursor import Cursor, boundary, cursor_at, cursor_far, end_of_name
 from rncv_lsp.xml_feeds import EventFeed, PyxFeed
-from rncv_lsp.xml_reading import OpenElement, Reading, expanded
+from rncv_lsp.xml_reading import Reading
 from rncv_lsp.xml_source import instructions, offset_of
+from rncv_lsp.xml_stretches import OpenElement, Stretches, expanded
 
 CAPABILITIES = {
     "completionProvider": {"triggerCharacters": ["<", "/", " ", '"', "'"]},
@@ -71,6 +72,9 @@ class XmlAnswers:
         self._forms, self._declarations, self._elements = Cache(), Cache(), Cache()
         self._expecting: Dict[Tuple[str, bool], Kept] = {}
         self._telling: Dict[str, Reading] = {}
+        # What was read of documents; and what another thread has read ahead, or None once that is taken.
+        self._known: Dict[str, Stretches] = {}
+        self._ahead: Dict[str, Optional[Stretches]] = {}
         self._has_snippets = self._has_markdown = False
         coordinator.prepare = self._prepare
         self.requests: Dict[str, Handler] = {
@@ -91,6 +95,13 @@ class XmlAnswers:
         self._expecting.pop((uri, False), None)
         self._expecting.pop((uri, True), None)
         self._telling.pop(uri, None)
+        self._known.pop(uri, None)
+        self._ahead.pop(uri, None)
+
+    def changed(self, document: Document) -> None:
+        """Keeps what was read of a document beside its change."""
+        if document.uri in self._known:
+            self._known[document.uri].move_to(document.lines)
 
     def _completion(self, params: Any) -> Any:
         """What may come at a position. As long as the schema is not known yet, the client is told to ask again."""
@@ -186,8 +197,9 @@ class XmlAnswers:
         if kept is not None:
             kept.reading.feed.close()
         own = kept.validator if is_like else self._validator(outcome, inside is not None)
-        feed = None if own is None else EventFeed(own) if is_refused else PyxFeed(own)
-        self._expecting[key] = Kept(schema, own, Reading(feed, inside), inside)
+        feed = EventFeed(own) if is_refused else PyxFeed(own)
+        known = self._stretches(document) if inside is None and not is_refused else None
+        self._expecting[key] = Kept(schema, own, Reading(feed, inside, known), inside)
         return self._expecting[key].reading
 
     def _validator(self, outcome: Optional[Outcome], is_inside: bool) -> Optional[rncv.Validator]:
@@ -201,8 +213,20 @@ class XmlAnswers:
         """A reading of the document for its open elements alone. It leaves the other one where the client types."""
         reading = self._telling.get(document.uri)
         if reading is None or not reading.continues(document.lines, offset):
-            reading = self._telling[document.uri] = Reading()
+            reading = self._telling[document.uri] = Reading(PyxFeed(None), None, self._stretches(document))
         return reading
+
+    def _stretches(self, document: Document) -> Stretches:
+        """What was read of a document."""
+        known = self._known.setdefault(document.uri, Stretches(document.lines))
+        known.move_to(document.lines)
+        ahead = self._ahead.get(document.uri)
+        if ahead is not None:
+            self._ahead[document.uri] = None
+            ahead.move_to(document.lines)
+            for stretch in ahead.by_start.values():
+                known.add(stretch)
+        return known
 
     def _knowledge(self, uri: str, outcome: Outcome) -> Knowledge:
         """What is known of the schema of a document."""
@@ -214,12 +238,23 @@ class XmlAnswers:
         return self._forms.find(outcome.name, lambda: Form(outcome.validator.simple_text().decode("utf-8")))
 
     def _prepare(self, task: Task) -> None:
-        """Gets ready what is known of the schema of a document."""
+        """Gets ready what is known of the schema of a document, and reads the document."""
+        self._read_ahead(task.document)
         if task.outcome is None or task.outcome.validator is None:
             return
         with contextlib.suppress(MemoryError):  # an answer reports that
             self._knowledge(task.document.uri, task.outcome).form.prepare()
             self._elements.find(task.outcome.name, lambda: elements_by(self._form(task.outcome)))
+
+    def _read_ahead(self, document: Document) -> None:
+        """Reads a document for the first time, so that the first answer about a place far behind its beginning takes no longer than others."""
+        if document.uri in self._ahead or document.lines.length > MOST_READ:
+            return
+        reading = Reading(PyxFeed(None))
+        reading.advance(document.lines, document.lines.length)
+        self._ahead[document.uri] = reading.known
+        if self._documents.current(document.uri) is None:  # it was closed meanwhile
+            self._ahead.pop(document.uri, None)
 
     def _declarations_of(self, schema: SchemaSet) -> Declarations:
         """The declarations in a schema's files."""

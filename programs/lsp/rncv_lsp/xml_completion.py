@@ -11,7 +11,7 @@ from rncv_lsp.schema_declarations import Declaration, Declarations
 from rncv_lsp.simple_form import BOOLEANS, XML_NAMESPACE, XSD, Attribute, Form, Name
 from rncv_lsp.texts import LINE_END, Text
 from rncv_lsp.xml_cursor import IN_TAG, Cursor
-from rncv_lsp.xml_reading import expanded
+from rncv_lsp.xml_stretches import expanded
 
 # Kinds of items of the protocol, and its number of a snippet.
 ELEMENT, ATTRIBUTE, VALUE, SNIPPET = 10, 5, 12, 2

@@ -5,7 +5,8 @@ import re
 from typing import Dict, NamedTuple, Tuple
 
 from rncv_lsp.texts import LINE_END, Text
-from rncv_lsp.xml_reading import FIRST_SCOPE, NAME, OpenElement, Reading, expanded, given_in, is_in_prolog, loosely_open, scope_in
+from rncv_lsp.xml_reading import NAME, Reading, given_in, is_in_prolog, loosely_open, scope_in
+from rncv_lsp.xml_stretches import FIRST_SCOPE, OpenElement, expanded
 
 # How far a tag is searched for its end; a text for its beginning, at first; and a long document for elements that are open.
 TAG_LENGTH, STEP_LENGTH, FAR_LENGTH = 65_536, 4_096, 65_536

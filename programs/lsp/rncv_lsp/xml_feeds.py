@@ -12,7 +12,7 @@ LINE_LENGTH = 8_192
 class Feed:
     """Hands a document to nobody."""
 
-    is_refused = False
+    is_refused = takes_texts = False
     document: Optional[Union[rncv.Document, rncv.Events]] = None
 
     def start(self, name: str, attributes: List[str], scope: Dict[str, str]) -> None:
@@ -27,6 +27,13 @@ class Feed:
     def flush(self) -> None:
         """Hands on what was taken."""
 
+    def cut(self) -> Optional[bytes]:
+        """Hands on what was taken, and returns what was taken since the last time, so that it can be taken again at once; None if that is not kept."""
+        return None
+
+    def again(self, pyx: bytes) -> None:
+        """Takes what was cut off before."""
+
     def expected(self) -> Optional[rncv.Expected]:
         """What may come next; None if that is not known, since the document is not valid up to here."""
         if self.document is None or self.is_refused or self.document.invalid_since() is not None:
@@ -40,11 +47,14 @@ class Feed:
 
 
 class PyxFeed(Feed):
-    """Hands it on as PYX."""
+    """Hands it on as PYX, or only keeps it, if there is no validator."""
 
-    def __init__(self, validator: rncv.Validator) -> None:
-        self.document: rncv.Document = validator.begin()
+    takes_texts = True
+
+    def __init__(self, validator: Optional[rncv.Validator]) -> None:
+        self.document: Optional[rncv.Document] = validator.begin() if validator is not None else None
         self._lines: List[str] = []
+        self._taken: List[bytes] = []
         self.add = self._lines.append  # adds a line
 
     def start(self, name: str, attributes: List[str], scope: Dict[str, str]) -> None:
@@ -66,16 +76,31 @@ class PyxFeed(Feed):
             self.add("-" + escaped(words[at:at + LINE_LENGTH]))
 
     def flush(self) -> None:
-        """Hands on the lines."""
+        """Hands on the lines, and keeps them."""
         if self._lines and self._lines[-1][0] in "(A":
             self.add("?")  # the next line says that the tag has no more attributes
-        if self._lines and not self.is_refused:
-            self.is_refused = not self.document.feed(("\n".join(self._lines) + "\n").encode("utf-8", "surrogatepass"))
-        self._lines.clear()
+        if self._lines:
+            self._taken.append(("\n".join(self._lines) + "\n").encode("utf-8", "surrogatepass"))
+            self._lines.clear()
+            self.again(self._taken[-1])
+
+    def cut(self) -> Optional[bytes]:
+        """Hands on the lines, and returns those since the last time."""
+        self.flush()
+        pyx = b"".join(self._taken)
+        self._taken.clear()
+        return pyx
+
+    def again(self, pyx: bytes) -> None:
+        """Hands on lines."""
+        if self.document is not None and not self.is_refused:
+            self.is_refused = not self.document.feed(pyx)
 
 
 class EventFeed(Feed):
     """Hands on each event."""
+
+    takes_texts = True
 
     def __init__(self, validator: rncv.Validator) -> None:
         self.document: rncv.Events = validator.events()

@@ -5,16 +5,16 @@ from __future__ import annotations
 import bisect
 import re
 import xml.parsers.expat
-from typing import Any, Callable, Dict, List, NamedTuple, Optional, Tuple
+from typing import Any, Callable, Dict, List, Optional, Tuple
 
 from rncv_lsp.outside import rncv
-from rncv_lsp.simple_form import XML_NAMESPACE
 from rncv_lsp.texts import Text
 from rncv_lsp.xml_feeds import Feed, PyxFeed
+from rncv_lsp.xml_stretches import FIRST_SCOPE, OpenElement, Stretch, Stretches
 
-FIRST_SCOPE: Dict[str, str] = {"": "", "xml": XML_NAMESPACE}
-# How many characters are parsed at once.
-PART_LENGTH = 262_144
+# A stretch of a document is kept that begins and ends before a start tag, and has about so many characters: some 200 elements.
+STRETCH_LENGTH = 8_192
+START = re.compile(r"<(?![/!?])")
 # The bytes of UTF-8 that begin no character.
 CONTINUED = bytes(range(0x80, 0xC0))
 # What stands in a text that is not well formed. Each of these has one beginning and one end, which is the only group; what has no end goes to the end of the
@@ -25,25 +25,6 @@ NAME = re.compile(r"</?([^\s<>/&=\"'?!;]+)")
 GIVEN = re.compile(r"""\s([^\s<>/&="'?!;]+)\s*=\s*(?:"([^"<]*)"|'([^'<]*)')""")
 # The parts of a prolog.
 PROLOG = re.compile(r"""<!--.*?(?:-->|\Z)|<\?.*?(?:\?>|\Z)|<!DOCTYPE|"[^"]*(?:"|\Z)|'[^']*(?:'|\Z)|[][<>]""", re.S)
-
-
-class OpenElement(NamedTuple):
-    """An element that is open: its name as it is written, the declarations that hold in it, as URIs by prefix, and where its tag begins."""
-
-    name: str
-    scope: Dict[str, str]
-    start: int
-
-    @property
-    def expanded(self) -> Tuple[str, str]:
-        """The URI and the local name. The URI of a prefix that is not declared is a text that no schema has."""
-        return expanded(self.name, self.scope)
-
-
-def expanded(name: str, scope: Dict[str, str]) -> Tuple[str, str]:
-    """The URI and the local name of an element's name."""
-    prefix, _, local = name.rpartition(":")
-    return scope.get(prefix, "\0"), local
 
 
 def scope_in(scope: Dict[str, str], attributes: List[str]) -> Dict[str, str]:
@@ -59,34 +40,45 @@ def scope_in(scope: Dict[str, str], attributes: List[str]) -> Dict[str, str]:
 
 class Reading:
     """What was read of a document, and handed on by a feed. With `inside` only that element is read and handed on, with its texts and empty children, and
-    without attributes, for a schema of such elements: what is wrong around it, in its children, or with attributes, does not count."""
+    without attributes, for a schema of such elements: what is wrong around it, in its children, or with attributes, does not count. Stretches that are known,
+    also by another reading of the document, are not parsed again."""
 
-    def __init__(self, feed: Optional[Feed] = None, inside: Optional[OpenElement] = None) -> None:
+    def __init__(self, feed: Optional[Feed] = None, inside: Optional[OpenElement] = None, known: Optional[Stretches] = None) -> None:
         self.lines, self.at = Text(), inside.start if inside is not None else 0
+        self.known = known if known is not None else Stretches()
         self.has_root = self.is_in_data = False
         self.feed, self._inside = feed or Feed(), inside
-        # For each open element the name, the declarations, and how many bytes are before its tag; and where these places are that were asked for.
+        # For each open element the name, the declarations, and how many bytes are before its tag, or -1 less its place if it is in a stretch that was not
+        # parsed; and where these places are that were asked for.
         self._stack: List[Tuple[str, Dict[str, str], int]] = []
         self._places: Dict[int, int] = {}
         # Where a fault is; and behind that, up to where tags were told, and the elements that are open there.
         self._fault_at, self._loose = -1, (-1, [])  # type: int, Tuple[int, List[OpenElement]]
         # How many bytes were parsed; and where each part of them begins, in bytes and in characters.
         self._bytes, self._parts = 0, []  # type: int, List[Tuple[int, int]]
-        self._parser: Any = xml.parsers.expat.ParserCreate("UTF-8")
+        # Where a stretch begins, and the elements that are open there.
+        self._since: Tuple[int, Tuple[OpenElement, ...]] = (self.at, ())
         self._prepare()
 
     def _prepare(self) -> None:
-        """Says what the parser calls."""
-        parser = self._parser
+        """Makes a parser for what follows: it has read the prolog, if elements are open, and their names as tags. Says what it calls."""
+        self._parser: Any = xml.parsers.expat.ParserCreate("UTF-8")
+        parser, head = self._parser, b""
+        if self._stack:
+            tags = "".join(f"<{name}>" for name, _, _ in self._stack)
+            head = (self.lines.slice(0, self.open[0].start).removeprefix("\ufeff") + tags).encode("utf-8", "surrogatepass")
+        # How many bytes of the parser are no bytes of the text that was parsed.
+        self._shift, self._has_parser = len(head) - self._bytes, True
         parser.buffer_text, parser.ordered_attributes = True, True
         self._defers = xml.parsers.expat.version_info >= (2, 6) and not hasattr(parser, "SetReparseDeferralEnabled")
         if hasattr(parser, "SetReparseDeferralEnabled"):
             parser.SetReparseDeferralEnabled(False)
+        parser.Parse(head, False)
         is_whole = self._inside is None
-        parser.StartElementHandler = self._start if is_whole else self._start_inside
+        parser.StartElementHandler = self._start_inside if not is_whole else self._start_handler() if self.has_root else self._start
         parser.EndElementHandler = self._end_handler() if is_whole else self._end_inside
         parser.StartCdataSectionHandler, parser.EndCdataSectionHandler = (lambda: self._set_data(True)), (lambda: self._set_data(False))
-        if self.feed.document is not None:
+        if self.feed.takes_texts:
             parser.CharacterDataHandler = self.feed.text if is_whole else self._text_inside
 
     def _start(self, name: str, attributes: List[str]) -> None:
@@ -98,7 +90,7 @@ class Reading:
     def _start_handler(self) -> Callable[[str, List[str]], None]:
         """What takes a start tag. It is called for each tag before the cursor, so it calls little itself: a line of PYX without attributes is added at
         once."""
-        stack, parser, feed = self._stack, self._parser, self.feed
+        stack, parser, shift, feed = self._stack, self._parser, self._shift, self.feed
         push, add, hand_on = stack.append, feed.add if isinstance(feed, PyxFeed) else None, feed.start
 
         def take(name: str, attributes: List[str]) -> None:
@@ -106,7 +98,7 @@ class Reading:
             scope = stack[-1][1] if stack else FIRST_SCOPE
             if attributes:
                 scope = scope_in(scope, attributes)
-            push((name, scope, parser.CurrentByteIndex))
+            push((name, scope, parser.CurrentByteIndex - shift))
             if attributes or add is None:
                 hand_on(name, attributes, scope)
             else:
@@ -163,6 +155,8 @@ class Reading:
 
     def _place(self, count: int) -> int:
         """The place behind so many bytes."""
+        if count < 0:
+            return -1 - count
         begin, place = self._parts[bisect.bisect_right(self._parts, (count, self.at)) - 1]
         data = self.lines.slice(place, place + count - begin).encode("utf-8", "surrogatepass")
         return place + length(data[:count - begin])
@@ -176,11 +170,48 @@ class Reading:
     def advance(self, lines: Text, end: int) -> None:
         """Reads on up to a place."""
         self.lines = lines
+        self.known.move_to(lines)
         while self._fault_at < 0 and self.at < end:
-            begin, self.at = self.at, min(self.at + PART_LENGTH, end)
-            self._parse(begin)
+            if not self._skip(end):
+                begin, self.at = self.at, self._stop(end)
+                self._parse(begin)
+                self._keep()
         self.at = max(self.at, end)
         self.feed.flush()
+
+    def _skip(self, end: int) -> bool:
+        """Takes a stretch that is known and goes no further than the end, if it begins here, without parsing it."""
+        known = self.known.by_start.get(self.at) if self._since[0] == self.at else None
+        if known is None or known.end > end or not known.is_behind(self._stack):
+            return False
+        inner = known.inner
+        self._stack[len(known.after) - len(inner):] = [(name, scope, -1 - start) for name, scope, start in inner]
+        self.feed.again(known.pyx)
+        self.at, self.has_root, self._has_parser = known.end, True, False
+        self._add(known.pyx)
+        return True
+
+    def _stop(self, end: int) -> int:
+        """Up to where the next characters are parsed: to a start tag, or to where something is known."""
+        begin = self.at + STRETCH_LENGTH
+        found = START.search(self.lines.slice(begin, min(begin + STRETCH_LENGTH, end)))
+        return self.known.next(self.at, min(begin + (found.start() if found else STRETCH_LENGTH), end))
+
+    def _keep(self) -> None:
+        """Keeps the stretch that ends here, if it is long or something is known behind it, and nothing is unfinished."""
+        is_wanted = self.at - self._since[0] >= STRETCH_LENGTH or self.at in self.known.by_start
+        if self._fault_at >= 0 or not is_wanted or not self._stack or self._inside is not None or self.is_in_data:
+            return
+        if self.unfinished() == self.at and START.match(self.lines.slice(self.at, self.at + 2)):
+            pyx = self.feed.cut()
+            if pyx is not None:
+                self._add(pyx)
+
+    def _add(self, pyx: bytes) -> None:
+        """Adds the stretch that ends here."""
+        behind = tuple(self.open)
+        self.known.add(Stretch(self._since[0], self.at, self._since[1], behind, pyx))
+        self._since = self.at, behind
 
     def loosely(self, limit: int, end: int) -> Tuple[List[OpenElement], int]:
         """The elements that are open at the end, behind a fault, and where the markup begins that is not finished there. What is told up to the limit is
@@ -194,6 +225,8 @@ class Reading:
 
     def _parse(self, begin: int) -> None:
         """Parses what follows a place. A byte order mark is left out."""
+        if not self._has_parser:
+            self._prepare()
         words = self.lines.slice(begin, self.at)
         words = words[1:] if begin == 0 and words.startswith("\ufeff") else words
         data = words.encode("utf-8", "surrogatepass")
@@ -201,12 +234,13 @@ class Reading:
         try:
             self._parser.Parse(data, False)
         except xml.parsers.expat.ExpatError:
-            self._fault_at = self._place(self._parser.ErrorByteIndex)
+            self._fault_at = self._place(self._parser.ErrorByteIndex - self._shift)
         self._bytes += len(data)
 
     def unfinished(self) -> int:
         """Where the markup begins that is not finished at the place up to which was read; that place if there is none."""
-        count = self._parser.CurrentByteIndex if self.has_root and self._fault_at < 0 else self._bytes
+        is_parsing = self._has_parser and self.has_root and self._fault_at < 0
+        count = self._parser.CurrentByteIndex - self._shift if is_parsing else self._bytes
         return self._place(count) if 0 <= count < self._bytes else self.at
 
     @property

@@ -3,6 +3,7 @@ import random
 import re
 import sys
 import unittest
+import unittest.mock
 
 from client import TOP
 from test_answers import LETTER
@@ -16,11 +17,12 @@ from rncv_lsp.texts import Text  # noqa: E402
 from rncv_lsp.xml_completion import Asked, Completion, Knowledge  # noqa: E402
 from rncv_lsp.xml_cursor import boundary, cursor_at  # noqa: E402
 from rncv_lsp.xml_feeds import EventFeed, PyxFeed  # noqa: E402
-from rncv_lsp.xml_reading import Reading  # noqa: E402
+from rncv_lsp.xml_reading import STRETCH_LENGTH, Reading  # noqa: E402
 
 PIECES = ("words", "<!--c \U0001F600 <x> -->", "<?p <q> ?>", "<![CDATA[ <z> ]]>", "&amp;", "\r\n", "\r", "\u00e9", "\U00010000")
 BLANKS = (" ", "\n", "\r\n", "<!-- <a> -->", "<?p?>")
-EDITS = ("", "<", ">", "</", "<p", "x", '"', "'", "&", "<!--", "-->", "]]>", "<![CDATA[", " ", "=", "<a b='", "\r", "<?", "\0", "\ud800", "<!DOCTYPE a [")
+EDITS = ("", "<", ">", "</", "<p", "x", '"', "'", "&", "<!--", "-->", "]]>", "<![CDATA[", " ", "=", "<a b='", "\r", "<?", "\0", "\ud800", "<!DOCTYPE a [",
+         "<p>", "</p>", "<para>", "</para>")
 HIDDEN = re.compile(r"<!--.*?-->|<!\[CDATA\[.*?\]\]>|<\?.*?\?>|<!DOCTYPE.*?\]>", re.S)
 ENCODING = "utf-16"
 ROUNDS, EDIT_COUNT = 80, 12
@@ -94,22 +96,68 @@ class Readings(unittest.TestCase):
         self.assertTrue(set(expected.elements) <= set(found.elements) and set(expected.values) <= set(found.values), cursor)
 
     def test_a_reading_that_goes_on(self):
+        known = 0
         for seed in range(ROUNDS):
-            chosen = random.Random(seed)
-            document, kept = letter(chosen), Reading(PyxFeed(self.validator))
-            for _ in range(EDIT_COUNT):
-                at = chosen.randrange(len(document) + 1)
-                document = document[:at] + chosen.choice(EDITS) + document[at + chosen.choice((0, 0, 0, 1, 3, 10)):]
-                place = min(chosen.choice((at, at + 1, chosen.randrange(len(document) + 1))), len(document))
-                place -= document[place - 1:place + 1] == "\r\n"
-                text = Text(document)
-                if not kept.continues(text, place):
-                    kept.feed.close()
-                    kept = Reading(PyxFeed(self.validator))
-                fresh = Reading(PyxFeed(self.other))
-                self.assertEqual(self.answer(kept, text, place), self.answer(fresh, text, place), (document, place))
+            with unittest.mock.patch("rncv_lsp.xml_reading.STRETCH_LENGTH", (1, 10, 40, 8_192)[seed % 4]):
+                known += self.check_going_on(seed)
+        self.assertGreater(known, ROUNDS // 2)
+
+    def check_going_on(self, seed):
+        """A reading that goes on, or begins anew with what is known, tells what one does that knows nothing. Returns how many stretches were known."""
+        chosen = random.Random(seed)
+        document, kept, count = letter(chosen), Reading(PyxFeed(self.validator)), 0
+        for _ in range(EDIT_COUNT):
+            at = chosen.randrange(len(document) + 1)
+            document = document[:at] + chosen.choice(EDITS) + document[at + chosen.choice((0, 0, 0, 1, 3, 10)):]
+            place = min(chosen.choice((at, at + 1, chosen.randrange(len(document) + 1))), len(document))
+            place -= document[place - 1:place + 1] == "\r\n"
+            text = Text(document)
+            if not kept.continues(text, place):
+                kept.feed.close()
+                kept = Reading(PyxFeed(self.validator), None, kept.known)
+                kept.known.move_to(text)
+                count += len(kept.known.by_start)
+            fresh = Reading(PyxFeed(self.other))
+            self.assertEqual(self.answer(kept, text, place), self.answer(fresh, text, place), (document, place))
+            fresh.feed.close()
+        kept.feed.close()
+        return count
+
+    def test_edits_that_change_what_is_behind_them(self):
+        text = Text("<!DOCTYPE letter [<!ENTITY e 'words'>]>\n<letter xmlns='urn:l' to='Ada'>" + "<para>a</para>" * 9 + "<para>&e;</para>" * 20 + "</letter>")
+        edits = (("ENTITY e", "ENTITY f"), ("ENTITY f", "ENTITY e"), ("<para>", "<para><para>"), ("<para><para>", "<para>"),
+                 ("urn:l", "urn:o"), ("urn:o", "urn:l"), ("a</para>", "a<!--</para>"), ("<!--", "<![CDATA["), ("<![CDATA[", ""), ("</para>", "</para>\u00e9"))
+        with unittest.mock.patch("rncv_lsp.xml_reading.STRETCH_LENGTH", 40):
+            ahead = Reading(PyxFeed(None))
+            ahead.advance(text, text.length)
+            for old, new in edits:
+                at = text.text.index(old)
+                text = text._replaced(at, at + len(old), new)
+                reading, fresh = Reading(PyxFeed(self.validator), None, ahead.known), Reading(PyxFeed(self.other))
+                self.assertEqual(self.answer(reading, text, text.length - 50), self.answer(fresh, text, text.length - 50), new)
+                self.assertEqual((reading.fault_at, reading.is_in_data), (fresh.fault_at, fresh.is_in_data))
+                reading.feed.close()
                 fresh.feed.close()
-            kept.feed.close()
+
+    def test_what_is_parsed_again(self):
+        items = "".join(f"<para>{number}<p>words</p>\n</para>" for number in range(4_000))
+        text = Text(f"<letter xmlns='urn:l' to='Ada'>{items}</letter>")
+        ahead = Reading(PyxFeed(None))
+        ahead.advance(text, text.length)
+        known, parse, parsed = ahead.known, Reading._parse, []
+        self.assertGreater(len(known.by_start), 10)
+        with unittest.mock.patch.object(Reading, "_parse", lambda reading, begin: (parsed.append(reading.at - begin), parse(reading, begin))):
+            for number in range(30):
+                place = text.text.index("<p>", number * 7_919 % 30 * (text.length // 31))
+                text = text._replaced(place, place, "<em>\u00e9</em>")
+                reading = Reading(PyxFeed(self.validator), None, known)
+                fresh = Reading(PyxFeed(self.other))
+                parsed.clear()
+                cursor = cursor_at(reading, text, place + 1)
+                self.assertLess(sum(parsed), 3 * STRETCH_LENGTH)
+                self.assertEqual((cursor, reading.expected()), (cursor_at(fresh, text, place + 1), fresh.expected()))
+                reading.feed.close()
+                fresh.feed.close()
 
 
 if __name__ == "__main__":
