@@ -55,6 +55,9 @@ place.position.character = 2
 for _, answer in pairs(vim.lsp.buf_request_sync(0, "textDocument/hover", place, 60000)) do
   io.stdout:write(tostring(answer.result.contents.value:find("A page", 1, true) ~= nil) .. "\\n")
 end
+for _, answer in pairs(vim.lsp.buf_request_sync(0, "textDocument/definition", place, 60000)) do
+  io.stdout:write(vim.fn.fnamemodify(vim.uri_to_fname(answer.result[1].uri), ":t") .. "|" .. answer.result[1].range.start.line .. "\\n")
+end
 vim.cmd("qa!")
 """
 EMACS_FILES = {"a.rnc": "rnc-mode", "a.rng": "nxml-mode", "a.xml": "nxml-mode", "a.xhtml": "mhtml-mode", "a.xsl": "nxml-mode", "book.xml": "nxml-mode",
@@ -70,7 +73,7 @@ EMACS_SCRIPT = """
         (flymake-start)))
     (princ (format "%%s|%%s|%%s\\n" name major-mode (mapconcat #'flymake-diagnostic-text (flymake-diagnostics) " ")))))
 (with-current-buffer (find-file-noselect "a.xhtml")
-  (let ((inhibit-message t) found hovered (limit (+ (float-time) 60)))
+  (let ((inhibit-message t) found hovered defined (limit (+ (float-time) 60)))
     (erase-buffer)
     (insert "<html xmlns='http://www.w3.org/1999/xhtml'><")
     (eglot--signal-textDocument/didChange)
@@ -78,9 +81,11 @@ EMACS_SCRIPT = """
       (accept-process-output nil 0.1)
       (setq found (let ((asked (eglot-completion-at-point))) (and asked (all-completions "" (nth 2 asked))))))
     (goto-char 3)
-    (setq hovered (jsonrpc-request (eglot--current-server-or-lose) :textDocument/hover (eglot--TextDocumentPositionParams)))
+    (setq hovered (jsonrpc-request (eglot--current-server-or-lose) :textDocument/hover (eglot--TextDocumentPositionParams))
+          defined (jsonrpc-request (eglot--current-server-or-lose) :textDocument/definition (eglot--TextDocumentPositionParams)))
     (princ (format "completion|%%s\\n" (mapconcat #'substring-no-properties found " ")))
-    (princ (format "hover|%%s\\n" (if (string-match-p "A page" (plist-get (plist-get hovered :contents) :value)) "A page" "?")))))
+    (princ (format "hover|%%s\\n" (if (string-match-p "A page" (plist-get (plist-get hovered :contents) :value)) "A page" "?")))
+    (princ (format "definition|%%s\\n" (file-name-nondirectory (plist-get (elt defined 0) :uri))))))
 """
 
 
@@ -122,8 +127,8 @@ class Editors(unittest.TestCase):
         self.write("init.lua", settings("init.lua"))
         self.write("script.lua", NVIM_SCRIPT % ", ".join(f'["{name}"] = "{code}"' for name, (_, code) in FILES.items()))
         lines, errors = self.lines("nvim", "--headless", "-u", str(self.folder / "init.lua"), "-S", str(self.folder / "script.lua"))
-        self.assertEqual(sorted(lines[:-3]), sorted([name, NVIM_FILETYPES[name], code] for name, (_, code) in FILES.items()), errors)
-        self.assertEqual(lines[-3:], [["2", "1"], ["/html", "body", ""], ["true"]], errors)
+        self.assertEqual(sorted(lines[:-4]), sorted([name, NVIM_FILETYPES[name], code] for name, (_, code) in FILES.items()), errors)
+        self.assertEqual(lines[-4:], [["2", "1"], ["/html", "body", ""], ["true"], ["page.rnc", "2"]], errors)
 
     @unittest.skipUnless(shutil.which("emacs"), "no emacs here")
     def test_emacs(self):
@@ -134,8 +139,9 @@ class Editors(unittest.TestCase):
         self.write("init.el", settings("init.el"))
         self.write("script.el", EMACS_SCRIPT % " ".join(f'"{name}"' for name in EMACS_FILES))
         lines, errors = self.lines("emacs", "--batch", "-l", str(self.folder / "init.el"), "-l", str(self.folder / "script.el"))
-        self.assertEqual([(name, set(told.split(" "))) for name, told in lines[-2:]], [("completion", {"/html", "body"}), ("hover", {"A", "page"})], errors)
-        found = {name: (mode, sorted(re.findall(r"\[(\w+)\]", reported))) for name, mode, reported in lines[:-2]}
+        self.assertEqual([(name, set(told.split(" "))) for name, told in lines[-3:]],
+                         [("completion", {"/html", "body"}), ("hover", {"A", "page"}), ("definition", {"page.rnc"})], errors)
+        found = {name: (mode, sorted(re.findall(r"\[(\w+)\]", reported))) for name, mode, reported in lines[:-3]}
         wanted = {name: (mode, FILES.get(name, ("", "malformed"))[1].split()) for name, mode in EMACS_FILES.items()}
         self.assertEqual(found, wanted, errors)
 
