@@ -9,14 +9,12 @@ import re
 OUTSIDE = (
     ("unread", r"is not declared in the document itself|behind a parameter entity|external (parameter )?entity .* is not loaded|not loaded"),
     ("in-declarations", r"parameter entity inside a declaration"),
-    ("encodings", r"the encoding '.*' is not served|in different ways|byte order mark"),
+    ("encodings", r"the encoding '.*' is not served|in different ways"),
     ("limits", r"more than [0-9,]+|over a limit|too many|amplification|malformed P10"),
     ("version-1.1", r"\b1\.1\b"),
     ("references", r"refers to a tab"),
-    ("carriage-returns", r"carriage return"),
     ("fragments", r"with a fragment"),
     ("identifiers", r"is no URI"),
-    ("xmllint-instructions", r"percent sign in an instruction"),
 )
 DECLARED = re.compile(rb"^(?:\xef\xbb\xbf)?<\?xml\s[^>]*?encoding\s*=\s*[\"']([A-Za-z][\w.\-]*)")
 # Characters of names by the Fifth Edition of XML 1.0, without those of ASCII. The Fourth Edition has some of them.

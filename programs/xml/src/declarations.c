@@ -1,5 +1,6 @@
 #include "declarations.h"
 
+#include "entity_text.h"
 #include "external.h"
 #include "parser_memory.h"
 
@@ -10,12 +11,13 @@
 #include <string.h>
 
 enum {
-    MOST_REFERRING = 500, /* entities that refer to others: libxml2 calls itself for an entity in an entity, and goes some 510 levels down */
-    MOST_DEFAULTS = 256,   /* declarations of namespaces by default, or of attributes with a default for one element */
+    MOST_LEVELS = 500,      /* entities in one another: libxml2 calls itself for an entity in an entity, and goes some 510 levels down */
+    MOST_DEFAULTS = 1000,   /* declarations of namespaces by default, or of attributes with a default for one element */
     MOST_LOADED = 67108864, /* bytes of external entities */
+    MOST_WRITTEN = 67108864, /* bytes of texts that are written for libxml2 */
     REFERENCE_COST = 256,  /* of a reference, in bytes */
     EMPTY_PLACES = 4096,   /* at which an empty entity is read in turn */
-    EXPANDED_BYTES = 8388608, /* what entities may give in any document */
+    EXPANDED_BYTES = 67108864, /* what entities may give in any document */
     MOST_GROWTH = 100      /* how many times as long as the document their text may be, above that */
 };
 
@@ -37,6 +39,10 @@ void declarations_open(struct declarations *declarations, struct feed *feed, con
     declarations->plain.etype = XML_INTERNAL_PREDEFINED_ENTITY;
     declarations->plain.name = no_name;
     declarations->nothing.content = no_name;
+    declarations->skipped.type = XML_ENTITY_DECL;
+    declarations->skipped.etype = XML_INTERNAL_GENERAL_ENTITY;
+    declarations->skipped.name = no_name;
+    declarations->skipped.content = no_name;
 }
 
 void declarations_free(struct declarations *declarations) {
@@ -55,6 +61,7 @@ void declarations_free(struct declarations *declarations) {
     free(declarations->defaults);
     free(declarations->ends);
     xmlHashFree(declarations->counts, NULL);
+    xmlHashFree(declarations->heights, NULL);
 }
 
 /* Whether libxml2 reads the text of an entity, or the external DTD. */
@@ -95,13 +102,10 @@ bool declarations_are_all(const struct declarations *declarations) {
     return is_alone(declarations) || (!parser->hasExternalSubset && !parser->hasPErefs && !declarations->is_unread);
 }
 
-/* Notes what is not read. */
-static void not_loaded(struct declarations *declarations, uint64_t offset, const char *what, const xmlChar *name) {
-    struct feed *feed = declarations->feed;
+/* Notes something about a name. */
+static void note_of(struct declarations *declarations, struct place place, const char *what, const xmlChar *name) {
     struct bytes line = NO_BYTES;
-    struct place place = feed_place(feed, offset);
     bytes_format(&line, what, plain(name));
-    bytes_add_text(&line, ": its entities and attribute defaults are not there");
     const char *note = bytes_text(&line);
     if (line.failed) {
         out_of_memory(declarations);
@@ -167,7 +171,8 @@ void declarations_subset(struct declarations *declarations, const xmlChar *name,
     check_subset(declarations);
     check_name(declarations, name);
     if ((public != NULL || system != NULL) && !loads(declarations)) {
-        not_loaded(declarations, declarations->doctype, "the external DTD '%s' is not loaded", system);
+        note_of(declarations, feed_place(declarations->feed, declarations->doctype),
+                "the external DTD '%s' is not loaded: its entities and attribute defaults are not there", system);
     }
 }
 
@@ -204,19 +209,22 @@ void declarations_entity(struct declarations *declarations, bool is_parameter, x
     if (is_parameter) {
         hide(declarations, (char *)text, strlen((const char *)text));
     }
-    check_text(declarations, (struct span){(const char *)text, strlen((const char *)text)}, is_parameter);
+    struct span span = {(const char *)text, strlen((const char *)text)};
+    declarations->has_blank_references |= !is_parameter && has_blank_reference(span);
+    check_text(declarations, span, is_parameter);
     bool is_external = declarations->feed->is_away || declarations->feed->parser->input->filename != NULL;
-    bool is_referring = strpbrk((const char *)text, "&%") != NULL && !(is_parameter && is_external);
-    declarations->referring += is_referring;
-    if (declarations->referring > MOST_REFERRING) {
-        refuse(declarations, "more than 500 entities that refer to others: outside the profile");
+    struct span name;
+    declarations->referring += !is_parameter && entity_text_next(&span, &name);
+    declarations->parametric += is_parameter && !is_external && memchr(span.data, '%', span.length) != NULL;
+    if (declarations->parametric > MOST_LEVELS) {
+        refuse(declarations, "more than 500 parameter entities that refer to others: outside the profile");
     }
 }
 
 /* Keeps a declaration of a namespace that is there by default. */
 static void keep_default(struct declarations *declarations, const xmlChar *element, const xmlChar *name, const xmlChar *value) {
     if (declarations->default_count == MOST_DEFAULTS) {
-        refuse(declarations, "over a limit of this program: more than 256 declarations of namespaces by default");
+        refuse(declarations, "over a limit of this program: more than 1,000 declarations of namespaces by default");
         return;
     }
     if (declarations->default_count == declarations->default_capacity) {
@@ -256,7 +264,7 @@ static void count_default(struct declarations *declarations, const xmlChar *elem
     if (xmlHashUpdateEntry(declarations->counts, element, (void *)count, NULL) != 0) {
         out_of_memory(declarations);
     } else if (count > MOST_DEFAULTS) {
-        refuse(declarations, "more than 256 declarations of attributes with defaults for one element: outside the profile");
+        refuse(declarations, "more than 1,000 declarations of attributes with defaults for one element: outside the profile");
     }
 }
 
@@ -401,19 +409,6 @@ static bool is_plain(const struct declarations *declarations, const char *text) 
     return !is_in_entity(feed) && feed->parser->instate == XML_PARSER_CONTENT && strpbrk(text, "<&") == NULL && strstr(text, "]]>") == NULL;
 }
 
-/* Whether a text has a reference to a blank other than a space. In a value it gives that blank, and libxml2 makes a space of it (XML 1.0, 3.3.3). */
-static bool has_blank_reference(const char *text) {
-    while ((text = strstr(text, "&#")) != NULL) {
-        text += 2;
-        bool is_hexadecimal = *text == 'x';
-        unsigned long code = strtoul(text + is_hexadecimal, NULL, is_hexadecimal ? 16 : 10);
-        if (code == '\t' || code == '\n' || code == '\r') {
-            return true;
-        }
-    }
-    return false;
-}
-
 void declarations_declared(struct declarations *declarations, const xmlChar *name) {
     if (is_alone(declarations) && is_in_entity(declarations->feed)) {
         xmlEntityPtr entity = xmlGetDocEntity(declarations->feed->parser->myDoc, name);
@@ -435,7 +430,178 @@ static xmlEntityPtr external_of(struct declarations *declarations, xmlEntityPtr 
 
 /* Whether a reference outside the DTD gives a control character. In the DTD it may be in a default that no tag has. */
 static bool gives_control(const struct declarations *declarations, const char *text) {
-    return declarations->feed->parser->inSubset == 0 && has_hidden((struct span){text, strlen(text)});
+    const struct feed *feed = declarations->feed;
+    return feed->prolog.has_hidden && feed->parser->inSubset == 0 && has_hidden((struct span){text, strlen(text)});
+}
+
+/* Whether an entity is a text that may be put into a value, and is not being put there. */
+static bool is_for_value(const struct declarations *declarations, const xmlEntity *entity) {
+    bool is_in_itself = false;
+    for (const struct level *level = declarations->level; level != NULL && !is_in_itself; level = level->outer) {
+        is_in_itself = level->entity == entity;
+    }
+    return !is_in_itself && entity != NULL && entity->etype == XML_INTERNAL_GENERAL_ENTITY && entity->content != NULL && entity->_private != entity;
+}
+
+/* The entity of a name, or NULL. */
+static xmlEntityPtr entity_of(struct declarations *declarations, struct span name) {
+    struct bytes written = NO_BYTES;
+    bytes_add(&written, name.data, name.length);
+    const char *text = bytes_text(&written);
+    if (written.failed) {
+        out_of_memory(declarations);
+    }
+    xmlEntityPtr entity = xmlSAX2GetEntity(declarations->feed->parser, (const xmlChar *)text);
+    bytes_free(&written);
+    return entity;
+}
+
+/* Puts the text of an entity into a value. One that is not put there is left to libxml2, which finds out why. */
+static void put_into_value(void *context, struct span name, struct bytes *text) {
+    struct declarations *declarations = context;
+    const xmlEntity *entity = entity_of(declarations, name);
+    if (declarations->written + text->length > MOST_WRITTEN) {
+        refuse(declarations, "over a limit of this program: entities in attributes of entities of more than 67,108,864 bytes");
+    } else if (entity != NULL && entity->etype == XML_EXTERNAL_GENERAL_PARSED_ENTITY) {
+        fault_set(declarations->feed->fault, FAULT_MALFORMED, declarations_place(declarations), "malformed XML: external entity '%s' in the value of an attribute",
+                  plain(entity->name));
+    } else if (!is_for_value(declarations, entity)) {
+        bytes_add_byte(text, '&');
+        bytes_add(text, name.data, name.length);
+        bytes_add_byte(text, ';');
+    } else if (gives_control(declarations, plain(entity->content))) {
+        refuse(declarations, control_character);
+    } else if (count_reference(declarations, entity)) {
+        const struct level level = {entity, declarations->level};
+        declarations->level = &level;
+        entity_text_value((struct span){plain(entity->content), (size_t)entity->length}, &(struct entity_source){put_into_value, declarations}, text);
+        declarations->level = level.outer;
+    }
+}
+
+/* A twin of a general entity with the text. NULL: there is a fault. */
+static struct twin *copy_of(struct declarations *declarations, const xmlEntity *entity, struct bytes *text) {
+    struct twin *twin = new_twin(declarations);
+    declarations->written += text->length;
+    if (twin == NULL) {
+        return NULL;
+    }
+    twin->entity = *entity;
+    twin->entity.orig = NULL;
+    twin->entity.checked = 0;
+    twin->entity._private = NULL;
+    twin->entity.length = (int)text->length;
+    twin->entity.content = (xmlChar *)strdup(bytes_text(text));
+    twin->entity.URI = entity->URI == NULL ? NULL : (xmlChar *)strdup(plain(entity->URI));
+    if (text->failed || twin->entity.content == NULL) {
+        out_of_memory(declarations);
+    }
+    return declarations->feed->fault->kind == FAULT_NONE ? twin : NULL;
+}
+
+/* The twins of an entity. NULL: out of memory. */
+static struct twin *twins_of(struct declarations *declarations, xmlEntityPtr entity) {
+    if (entity->_private == NULL) {
+        entity->_private = new_twin(declarations);
+    }
+    return entity->_private;
+}
+
+/* The twin of an entity for content. It is made once. NULL: there is a fault. */
+static struct twin *written_of(struct declarations *declarations, xmlEntityPtr entity) {
+    struct bytes text = NO_BYTES;
+    struct twin *twins = twins_of(declarations, entity);
+    if (twins != NULL && twins->written == NULL) {
+        const struct level level = {entity, NULL};
+        declarations->level = &level;
+        entity_text_content((struct span){plain(entity->content), (size_t)entity->length}, &(struct entity_source){put_into_value, declarations}, &text);
+        declarations->level = NULL;
+        twins->written = copy_of(declarations, entity, &text);
+    }
+    bytes_free(&text);
+    return twins == NULL ? NULL : twins->written;
+}
+
+/* The same with marks, for the value of an attribute of the document itself. */
+static struct twin *marked_of(struct declarations *declarations, xmlEntityPtr entity) {
+    struct bytes text = NO_BYTES;
+    struct twin *twins = twins_of(declarations, entity);
+    if (twins != NULL && twins->marked == NULL) {
+        entity_text_marked((struct span){plain(entity->content), (size_t)entity->length}, &text);
+        twins->marked = copy_of(declarations, entity, &text);
+    }
+    declarations->has_marks = true;
+    bytes_free(&text);
+    return twins == NULL ? NULL : twins->marked;
+}
+
+/* The entity with the text that libxml2 has to get. NULL: there is a fault. */
+static xmlEntityPtr rewritten(struct declarations *declarations, xmlEntityPtr entity, bool is_in_value) {
+    const struct span text = {plain(entity->content), (size_t)entity->length};
+    bool has_references = memchr(text.data, '<', text.length) != NULL && memchr(text.data, '&', text.length) != NULL;
+    bool is_for_content = memchr(text.data, '\r', text.length) != NULL || (has_references && (declarations->has_blank_references || loads(declarations)));
+    struct twin *twin = NULL;
+    if (is_in_value && has_blank_reference(text)) {
+        twin = marked_of(declarations, entity);
+    } else if (!is_in_value && is_for_content) {
+        twin = written_of(declarations, entity);
+    } else {
+        return entity;
+    }
+    return twin == NULL || !count_reference(declarations, &twin->entity) ? NULL : &twin->entity;
+}
+
+/* How many entities may be in one another from the text of this one on; more than MOST_LEVELS if `depth`, in which it is, and they are more. An entity that is
+ * in itself is left to libxml2. It calls itself for the entities in one another, at most MOST_LEVELS times. */
+static size_t height_of(struct declarations *declarations, const xmlEntity *entity, size_t depth) {
+    struct span rest = {plain(entity->content), (size_t)entity->length};
+    struct span name;
+    size_t height = 0;
+    uintptr_t known = (uintptr_t)xmlHashLookup(declarations->heights, entity->name);
+    if (known > 0 || depth > MOST_LEVELS) {
+        return known > 0 ? known - 1 : MOST_LEVELS + 1;
+    }
+    bool is_kept = xmlHashUpdateEntry(declarations->heights, entity->name, (void *)(uintptr_t)1, NULL) == 0;
+    while (height <= MOST_LEVELS && is_kept && entity_text_next(&rest, &name)) {
+        const xmlEntity *inner = entity_of(declarations, name);
+        bool is_text = inner != NULL && inner->etype == XML_INTERNAL_GENERAL_ENTITY && inner->content != NULL;
+        size_t found = is_text ? 1 + height_of(declarations, inner, depth + 1) : 0;
+        height = found > height ? found : height;
+    }
+    is_kept = is_kept && xmlHashUpdateEntry(declarations->heights, entity->name, (void *)(uintptr_t)(height + 1), NULL) == 0;
+    if (!is_kept) {
+        out_of_memory(declarations);
+    }
+    return height;
+}
+
+/* Refuses a reference in the document itself to an entity in which too many are in one another. */
+static void check_height(struct declarations *declarations, const xmlEntity *entity) {
+    if (declarations->referring <= MOST_LEVELS || is_in_entity(declarations->feed)) {
+        return;
+    }
+    if (declarations->heights == NULL) {
+        declarations->heights = xmlHashCreate(0);
+    }
+    if (declarations->heights == NULL) {
+        out_of_memory(declarations);
+    } else if (height_of(declarations, entity, 0) > MOST_LEVELS) {
+        refuse(declarations, "more than 500 entities in one another: outside the profile");
+    }
+}
+
+/* What is read for an entity that is not declared, if it may be declared nowhere: nothing, unless what is not read may declare it. */
+static xmlEntityPtr undeclared(struct declarations *declarations, const xmlChar *name) {
+    const xmlParserCtxt *parser = declarations->feed->parser;
+    bool is_all_read = !declarations->is_unread && (!parser->hasExternalSubset || loads(declarations));
+    if (declarations->feed->fault->kind != FAULT_NONE || declarations_are_all(declarations) || !is_all_read) {
+        return NULL;
+    }
+    if (!declarations->has_skipped) {
+        note_of(declarations, declarations_place(declarations), "entity '%s' is not declared: it is read as nothing", name);
+    }
+    declarations->has_skipped = true;
+    return count_reference(declarations, &declarations->skipped) ? &declarations->skipped : NULL;
 }
 
 xmlEntityPtr declarations_general(struct declarations *declarations, const xmlChar *name) {
@@ -443,8 +609,11 @@ xmlEntityPtr declarations_general(struct declarations *declarations, const xmlCh
     bool is_in_value = feed->parser->instate == XML_PARSER_ATTRIBUTE_VALUE;
     bool is_reference = is_in_value || feed->parser->instate == XML_PARSER_CONTENT; /* libxml2 also asks for an entity that it has just declared */
     xmlEntityPtr entity = feed->fault->kind == FAULT_NONE ? xmlSAX2GetEntity(feed->parser, name) : NULL;
-    if (entity == NULL || !is_reference) {
+    if (!is_reference) {
         return entity;
+    }
+    if (entity == NULL) {
+        return undeclared(declarations, name);
     }
     if (entity->_private == entity) {
         fault_set(feed->fault, FAULT_MALFORMED, declarations_place(declarations),
@@ -460,23 +629,18 @@ xmlEntityPtr declarations_general(struct declarations *declarations, const xmlCh
     if (entity->etype != XML_INTERNAL_GENERAL_ENTITY || entity->content == NULL) {
         return entity;
     }
-    if (feed->prolog.has_hidden && gives_control(declarations, (const char *)entity->content)) {
+    check_height(declarations, entity);
+    if (gives_control(declarations, (const char *)entity->content)) {
         refuse(declarations, control_character);
+    }
+    if (feed->fault->kind != FAULT_NONE) {
         return NULL;
     }
     if (is_plain(declarations, (const char *)entity->content)) {
         declarations->plain.content = entity->content;
         return &declarations->plain;
     }
-    if (is_in_value && has_blank_reference((const char *)entity->content)) {
-        refuse(declarations, "an attribute with an entity that refers to a tab or a line end: outside the profile");
-        return NULL;
-    }
-    if (!is_in_value && strchr((const char *)entity->content, '\r') != NULL) {
-        refuse(declarations, "an entity with a carriage return and markup: outside the profile");
-        return NULL;
-    }
-    return entity;
+    return rewritten(declarations, entity, is_in_value);
 }
 
 /* An entity without text, at another place each time. */
@@ -544,6 +708,18 @@ static bool is_in_declaration(struct declarations *declarations) {
     return parser->inputNr > 1 && at > parser->input->base && at[-1] == '<';
 }
 
+/* Notes that a parameter entity is not read. One that is declared nowhere has nothing, unless one that was not read before it may declare it. */
+static void note_unread(struct declarations *declarations, const xmlEntity *entity, const xmlChar *name) {
+    struct feed *feed = declarations->feed;
+    struct place place = feed_place(feed, feed->is_away ? declarations->doctype : feed_last(feed, feed_offset(feed), "%"));
+    if (entity != NULL) {
+        note_of(declarations, place, "the parameter entity '%s' is not loaded: its entities and attribute defaults are not there", entity->SystemID);
+    } else {
+        note_of(declarations, place, "the parameter entity '%s' is not declared: it is read as nothing", name);
+    }
+    declarations->is_unread |= entity != NULL;
+}
+
 xmlEntityPtr declarations_parameter(struct declarations *declarations, const xmlChar *name) {
     const struct feed *feed = declarations->feed;
     if (feed->fault->kind != FAULT_NONE) {
@@ -562,19 +738,13 @@ xmlEntityPtr declarations_parameter(struct declarations *declarations, const xml
             return empty(declarations);
         }
     }
-    bool is_read = entity != NULL && entity->etype != XML_EXTERNAL_PARAMETER_ENTITY;
-    if (is_read && is_in_declaration(declarations)) {
+    bool is_external = entity != NULL && entity->etype == XML_EXTERNAL_PARAMETER_ENTITY;
+    if (!is_external && is_in_declaration(declarations)) {
         refuse(declarations, "a parameter entity inside a declaration: outside the profile");
     }
-    if (is_read) {
+    if (entity != NULL && !is_external) {
         return count_reference(declarations, entity) ? in_turn(declarations, entity) : empty(declarations);
     }
-    uint64_t reference = feed->is_away ? declarations->doctype : feed_last(feed, feed_offset(feed), "%");
-    if (entity == NULL) {
-        not_loaded(declarations, reference, "the parameter entity '%s' is not declared", name);
-    } else {
-        not_loaded(declarations, reference, "the parameter entity '%s' is not loaded", entity->SystemID);
-    }
-    declarations->is_unread = true;
+    note_unread(declarations, entity, name);
     return empty(declarations);
 }

@@ -18,14 +18,22 @@ struct namespace_default {
     char *value;
 };
 
-/* An entity of our own beside one of libxml2: the text of an external entity, or a second copy of a parameter entity.
+/* An entity of our own beside one of libxml2: the text of an external entity, a text that `entity_text.h` writes, or a second copy of a parameter entity.
  *
  * libxml2 takes it for an error if a declaration ends at the place in memory at which the one before it ended. So a parameter entity is read from two places
  * in turn, and an empty one from many. */
 struct twin {
     xmlEntity entity;
     bool is_next;
-    struct twin *before; /* the twin that was made before this one */
+    struct twin *written; /* of a general entity: the one with the text for content, .. */
+    struct twin *marked;  /* .. and with the text for values of attributes; NULL: it is not made yet */
+    struct twin *before;  /* the twin that was made before this one */
+};
+
+/* Entities whose texts are being put into one another. */
+struct level {
+    const xmlEntity *entity;
+    const struct level *outer;
 };
 
 struct declarations {
@@ -34,8 +42,14 @@ struct declarations {
     uint64_t doctype;          /* the offset of the document type */
     bool has_dropped;          /* libxml2 has dropped a parameter entity, so that a later declaration of it would count */
     bool is_unread;            /* a parameter entity was not read: what is declared after it may not count */
-    size_t referring;          /* how many entities refer to others */
+    bool has_blank_references; /* an entity has a reference to a blank other than a space */
+    bool has_marks;            /* libxml2 has marks for such references, which may be in attributes from now on */
+    bool has_skipped;          /* a reference to an entity that is not declared was passed over */
+    size_t referring;          /* how many general entities refer to others, .. */
+    size_t parametric;         /* .. and how many parameter entities to parameter entities */
+    xmlHashTablePtr heights;   /* how many entities may be in one another from an entity on, and one more; 1: that is being found out */
     uint64_t loaded;           /* the bytes of external entities that were read */
+    uint64_t written;          /* the bytes of texts that were written for libxml2 */
     uint64_t expanded;         /* the bytes of entities that were put in the place of references, and the cost of that */
     struct namespace_default *defaults;
     size_t default_count;
@@ -46,6 +60,8 @@ struct declarations {
     size_t next_end;
     struct twin *twins;
     xmlEntity plain;        /* an entity of text alone, which libxml2 takes as it takes `&lt;` */
+    xmlEntity skipped;      /* is read instead of an entity that is not declared */
+    const struct level *level; /* the text that is being put into a value */
 };
 
 void declarations_open(struct declarations *declarations, struct feed *feed, const struct event_sink *sink);

@@ -83,7 +83,7 @@ static void open_declared(struct decoding *decoding, struct span encoding) {
     }
     memcpy(name, encoding.data, encoding.length);
     name[encoding.length] = '\0';
-    bool is_open = decoding->family == FAMILY_EBCDIC ? transcoder_open_any(&decoding->transcoder, name) : transcoder_open(&decoding->transcoder, name);
+    bool is_open = decoding->family == FAMILY_EBCDIC ? transcoder_open_ebcdic(&decoding->transcoder, name) : transcoder_open(&decoding->transcoder, name);
     decoding->is_transcoded = is_open;
     if (!is_open) {
         not_served(decoding, encoding);
@@ -114,11 +114,8 @@ static void set_encoding(struct decoding *decoding, const struct xml_declaration
         if (!decoding->is_transcoded) {
             not_served(decoding, (struct span){wide, strlen(wide)});
         }
-    } else if (decoding->family == FAMILY_UTF_8 && encoding.data != NULL && !is_utf_8_name(encoding)) {
-        fault_set(&decoding->fault, FAULT_OUTSIDE, (struct place){0, 0},
-                  "the byte order mark says UTF-8, and the declaration %.*s: outside the profile", (int)encoding.length, encoding.data);
     } else if (encoding.data != NULL && !is_utf_8_name(encoding)) {
-        open_declared(decoding, encoding);
+        open_declared(decoding, encoding); /* it counts more than a byte order mark of UTF-8, as for jing */
     }
 }
 
@@ -130,7 +127,8 @@ static bool add_start(const struct decoding *decoding, size_t mark, struct bytes
         bytes_add(text, decoding->first.data + mark, decoding->first.length - mark);
         return !text->failed;
     }
-    if (transcoder_open_any(&transcoder, encoding)) {
+    bool is_ebcdic = decoding->family == FAMILY_EBCDIC;
+    if (is_ebcdic ? transcoder_open_ebcdic(&transcoder, encoding) : transcoder_open_any(&transcoder, encoding)) {
         bool is_good = transcoder_add(&transcoder, decoding->first.data + mark, decoding->first.length - mark, text) != DECODED_NO_MEMORY;
         transcoder_close(&transcoder);
         return is_good;

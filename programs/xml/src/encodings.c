@@ -4,7 +4,15 @@
 #include <string.h>
 #include <strings.h>
 
-enum { ROOM = 16384, LONGEST_CHARACTER = 64 };
+enum {
+    ROOM = 16384,
+    LONGEST_CHARACTER = 64,
+    LONGEST_NAME = 64
+};
+
+/* The two bytes of EBCDIC, which iconv reads as a next line and as a line feed. */
+static const char NEXT_LINE = '\x15';
+static const char LINE_FEED = '\x25';
 
 /* Writes what the byte alone is in UTF-8 to `text`, and returns the length. 0: the byte is no character. */
 static size_t alone(iconv_t descriptor, char byte, char *text, size_t size) {
@@ -71,6 +79,39 @@ bool transcoder_open(struct transcoder *transcoder, const char *encoding) {
     return true;
 }
 
+/* Opens the transcoder for the name with a number of five digits, as `IBM01140`, which iconv knows without the zero. */
+static bool open_numbered(struct transcoder *transcoder, const char *encoding) {
+    static const char *const prefixes[] = {"ibm0", "cp0", "ccsid0"};
+    char name[LONGEST_NAME] = "IBM";
+    for (size_t at = 0; at < sizeof prefixes / sizeof *prefixes; at++) {
+        size_t length = strlen(prefixes[at]);
+        if (strncasecmp(encoding, prefixes[at], length) == 0 && strlen(encoding) == length + 4) {
+            strcat(name, encoding + length);
+            return transcoder_open_any(transcoder, name);
+        }
+    }
+    return false;
+}
+
+bool transcoder_open_ebcdic(struct transcoder *transcoder, const char *encoding) {
+    size_t length = strlen(encoding);
+    bool is_open = transcoder_open_any(transcoder, encoding) || open_numbered(transcoder, encoding);
+    transcoder->is_ebcdic = true;
+    transcoder->is_open_systems = length >= 4 && strcmp(encoding + length - 4, "1047") == 0;
+    return is_open;
+}
+
+/* Writes the bytes of line ends as iconv has them. They are in no longer character. */
+static void set_line_ends(const struct transcoder *transcoder, char *bytes, size_t length) {
+    for (size_t at = 0; at < length && transcoder->is_ebcdic; at++) {
+        if (bytes[at] == NEXT_LINE) {
+            bytes[at] = LINE_FEED;
+        } else if (bytes[at] == LINE_FEED && transcoder->is_open_systems) {
+            bytes[at] = NEXT_LINE;
+        }
+    }
+}
+
 /* Calls iconv once. It takes some of the bytes, from `from` on. */
 static size_t some(struct transcoder *transcoder, char **from, size_t *left, struct bytes *text) {
     if (!bytes_reserve(text, ROOM)) {
@@ -130,6 +171,7 @@ enum decoded transcoder_add(struct transcoder *transcoder, const char *bytes, si
     }
     char *from = transcoder->waiting.data;
     size_t left = transcoder->waiting.length;
+    set_line_ends(transcoder, from + left - length, length);
     while (left > 0) {
         size_t answer = some(transcoder, &from, &left, text);
         if (answer != (size_t)-1 && answer > 0) {

@@ -17,9 +17,11 @@ struct transcoder {
     struct bytes waiting; /* the first bytes of a character whose other bytes have not come yet */
     bool has_doubts;      /* whether the byte of `\` or of `~` is another character in this table */
     bool is_shift_jis;    /* it is, and is read as `\` or `~` */
+    bool is_ebcdic;       /* its two bytes for line feeds and next lines are line feeds, as in Java, .. */
+    bool is_open_systems; /* .. or the first one is, and the second one is a next line */
 };
 
-#define NO_TRANSCODER {(iconv_t)-1, NO_BYTES, false, false}
+#define NO_TRANSCODER {(iconv_t)-1, NO_BYTES, false, false, false, false}
 
 /* Opens the transcoder. False: the encoding is not served. It is served if iconv knows it and ASCII is itself in it, so that the declaration was read
  * as it is meant. The bytes of `\` and `~` may be other characters. */
@@ -27,6 +29,9 @@ bool transcoder_open(struct transcoder *transcoder, const char *encoding);
 
 /* Opens the transcoder for any encoding that iconv knows. */
 bool transcoder_open_any(struct transcoder *transcoder, const char *encoding);
+
+/* Opens the transcoder for an encoding of EBCDIC. */
+bool transcoder_open_ebcdic(struct transcoder *transcoder, const char *encoding);
 
 /* Adds the bytes as UTF-8 to `text`. Bytes that the encoding does not have become a byte 0xFF, which no UTF-8 has. */
 enum decoded transcoder_add(struct transcoder *transcoder, const char *bytes, size_t length, struct bytes *text);

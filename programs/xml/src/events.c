@@ -1,6 +1,7 @@
 #include "events.h"
 
 #include "declarations.h"
+#include "entity_text.h"
 #include "known_names.h"
 #include "parser_memory.h"
 #include "parser_words.h"
@@ -17,7 +18,7 @@ enum {
     ASKED_BYTES = 65536,   /* of texts, after which the receiver is asked how much it keeps */
     SEARCHED = 1000000000, /* namespaces that are looked at in any document */
     MOST_SEARCHED = 64,    /* and for each of its bytes, above that */
-    COST_OF_DEFAULTS = 16  /* libxml2 compares each pair of attributes by default: so many pairs cost a byte */
+    COST_OF_DEFAULTS = 16  /* libxml2 compares attributes and namespaces by default with all others: so many pairs cost a byte */
 };
 
 struct reader {
@@ -29,6 +30,7 @@ struct reader {
     struct start_event start; /* the last one, with what is open now as its depth */
     struct event_attribute *attributes; /* room for those of a tag */
     size_t attribute_capacity;
+    struct bytes values; /* those of its attributes that have blanks in the place of marks */
     struct event_declaration *declared; /* room for its declarations */
     size_t declared_capacity;
     bool has_bad_name;   /* the tag that is being read has a name that is no QName */
@@ -249,17 +251,29 @@ static bool declares(const struct reader *reader, size_t count, struct span pref
     return false;
 }
 
+/* Counts what attributes or namespaces by default cost. */
+static void count_defaults(struct reader *reader, uint64_t cost) {
+    if (cost > 0 && !declarations_count(&reader->declarations, cost)) {
+        fault_set(reader->fault, FAULT_OUTSIDE, place_of(reader->start.position),
+                  "attributes by default of more than 100 times the document's length: outside the profile");
+    }
+}
+
 /* Adds the namespaces that the element declares by default. libxml2 leaves some of them out. */
 static void add_defaults(struct reader *reader, struct start_event *start) {
     const struct declarations *declarations = &reader->declarations;
     size_t own = start->declaration_count;
+    uint64_t count = 0;
     for (size_t at = 0; at < declarations->default_count && is_good(reader); at++) {
         const struct namespace_default *found = &declarations->defaults[at];
         const char *prefix = found->name[5] == '\0' ? "" : found->name + 6;
-        if (is_written(start->name, found->element) && !declares(reader, own, (struct span){prefix, strlen(prefix)})) {
+        bool is_of_tag = is_written(start->name, found->element);
+        count += is_of_tag;
+        if (is_of_tag && !declares(reader, own, (struct span){prefix, strlen(prefix)})) {
             add_declaration(reader, start, (struct span){prefix, strlen(prefix)}, (struct span){found->value, strlen(found->value)});
         }
     }
+    count_defaults(reader, count * count / COST_OF_DEFAULTS + declarations->default_count / COST_OF_DEFAULTS);
 }
 
 static void add_declarations(struct reader *reader, struct start_event *start, int count, const xmlChar **namespaces) {
@@ -286,41 +300,104 @@ static const struct event_name *name_of(struct reader *reader, const xmlChar *lo
     return known_name_new(&reader->names, reader->feed.parser->dict, local, prefix, uri);
 }
 
+/* Makes room for the values that have marks, so that they stay where they are. */
+static void clear_values(struct reader *reader, int count, const xmlChar **attributes) {
+    size_t length = 0;
+    bytes_clear(&reader->values);
+    for (int at = 0; at < count; at++, attributes += 5) {
+        length += attributes[3] == NULL ? 0 : (size_t)(attributes[4] - attributes[3]);
+    }
+    if (!bytes_reserve(&reader->values, length)) {
+        out_of_memory(reader);
+    }
+}
+
+/* The value with the blanks in the place of their marks. */
+static struct span unmarked(struct reader *reader, struct span value) {
+    if (!reader->declarations.has_marks || !has_blank_marks(value)) {
+        return value;
+    }
+    size_t begin = reader->values.length;
+    add_unmarked(value, &reader->values);
+    return (struct span){reader->values.data + begin, value.length};
+}
+
 static void add_attributes(struct reader *reader, struct start_event *start, int count, const xmlChar **attributes) {
     start->attribute_count = 0;
+    if (reader->declarations.has_marks) {
+        clear_values(reader, count, attributes);
+    }
     for (int at = 0; at < count && is_good(reader); at++, attributes += 5) {
         void *list = reader->attributes;
         if (attributes[3] == NULL) {
             out_of_memory(reader); /* for the value of a default */
         } else if (has_room(reader, &list, start->attribute_count, &reader->attribute_capacity, sizeof *reader->attributes)) {
             reader->attributes = list;
-            reader->attributes[start->attribute_count++] = (struct event_attribute){*name_of(reader, attributes[0], attributes[1], attributes[2]),
-                                                                                    {(const char *)attributes[3], (size_t)(attributes[4] - attributes[3])}};
+            struct span value = {(const char *)attributes[3], (size_t)(attributes[4] - attributes[3])};
+            reader->attributes[start->attribute_count++] =
+                (struct event_attribute){*name_of(reader, attributes[0], attributes[1], attributes[2]), unmarked(reader, value)};
         }
     }
     start->attributes = reader->attributes;
 }
 
-/* Refuses a tag that takes back a prefix which it declares. libxml2 cannot tell whether it declares it by default, which would not count. */
-static void take_both(struct reader *reader, const struct start_event *start, const struct event_declaration *both) {
-    bool may_be_default = false;
-    for (size_t at = 0; at < reader->declarations.default_count && !may_be_default; at++) {
+/* Refuses a tag that declares a namespace with marks. */
+static void check_marks(struct reader *reader, const struct start_event *start) {
+    for (size_t at = 0; at < start->declaration_count && is_good(reader); at++) {
+        if (has_blank_marks(start->declarations[at].uri)) {
+            fault_set(reader->fault, FAULT_OUTSIDE, place_of(start->position), "a namespace with an entity that refers to a tab or a line end: outside the profile");
+        }
+    }
+}
+
+/* Whether the tag has the declaration by default, as far as the DTD says. */
+static bool may_be_default(const struct reader *reader, const struct event_declaration *declaration) {
+    bool is_one = false;
+    for (size_t at = 0; at < reader->declarations.default_count && !is_one; at++) {
         const struct namespace_default *found = &reader->declarations.defaults[at];
         const char *prefix = found->name[5] == '\0' ? "" : found->name + 6;
-        may_be_default = is_written(start->name, found->element) && is_text(both->prefix, prefix, strlen(prefix));
+        is_one = is_written(reader->start.name, found->element) && is_text(declaration->prefix, prefix, strlen(prefix)) &&
+                 is_text(declaration->uri, found->value, strlen(found->value));
     }
-    if (may_be_default) {
-        fault_set(reader->fault, FAULT_OUTSIDE, place_of(start->position),
-                  "a prefix that XML 1.1 lets an element take back, which a DTD declares: outside the profile");
-    } else {
-        fault_set(reader->fault, FAULT_MALFORMED, place_of(start->position), "malformed XML: the attribute xmlns:%.*s is there twice", (int)both->prefix.length,
-                  both->prefix.data);
+    return is_one;
+}
+
+/* How often the tag itself declares a prefix, by its text; 0: its text is not there. */
+static size_t declared_times(struct reader *reader, struct span prefix) {
+    struct feed *feed = &reader->feed;
+    uint64_t end = reader->start.position.at;
+    uint64_t begin = feed_last(feed, end, "<");
+    return is_in_content(reader) ? withdrawn_count(feed_text(feed, begin, (size_t)(end - begin)), prefix) : 0;
+}
+
+/* Drops the declarations by default of prefixes that the tag takes back, since what a tag has itself is not there by default. */
+static void drop_defaults(struct reader *reader, struct start_event *start) {
+    size_t kept = 0;
+    for (size_t at = 0; at < start->declaration_count && is_good(reader); at++) {
+        struct event_declaration declaration = reader->declared[at];
+        bool is_both = withdrawn_has(&reader->withdrawn, declaration.prefix) && may_be_default(reader, &declaration);
+        size_t times = is_both ? declared_times(reader, declaration.prefix) : 0;
+        if (is_both && times == 0) {
+            fault_set(reader->fault, FAULT_OUTSIDE, place_of(start->position),
+                      "a prefix that XML 1.1 lets an element of an entity take back, which a DTD declares: outside the profile");
+        }
+        if (times != 1) {
+            reader->declared[kept++] = declaration;
+        }
     }
+    start->declaration_count = kept;
+}
+
+/* Refuses a tag that takes back a prefix which it declares. */
+static void take_both(struct reader *reader, const struct start_event *start, const struct event_declaration *both) {
+    fault_set(reader->fault, FAULT_MALFORMED, place_of(start->position), "malformed XML: the attribute xmlns:%.*s is there twice", (int)both->prefix.length,
+              both->prefix.data);
 }
 
 /* Does for XML 1.1 what libxml2 does not: takes back the prefixes that the tag takes back. */
 static void take_withdrawn(struct reader *reader, struct start_event *start) {
     struct withdrawn *withdrawn = &reader->withdrawn;
+    drop_defaults(reader, start);
     const struct event_declaration *both = withdrawn_take(withdrawn, reader->declared, start);
     const struct event_name *name = withdrawn_name(withdrawn, start);
     reader->searched += (start->declaration_count + start->attribute_count + 1) * (uint64_t)withdrawn->count;
@@ -405,20 +482,15 @@ static uint64_t searched_for(const struct reader *reader, int attribute_count) {
 /* Counts what libxml2 takes for a tag beside its length: it looks for each name in the open namespaces, and adds the attributes that are there by default. */
 static void count_costs(struct reader *reader, int attribute_count, int default_count, const xmlChar **attributes) {
     uint64_t defaults = (uint64_t)default_count;
+    uint64_t cost = defaults * (uint64_t)attribute_count / COST_OF_DEFAULTS;
     reader->searched += searched_for(reader, attribute_count);
     if (reader->searched > SEARCHED && reader->searched / MOST_SEARCHED > feed_offset(&reader->feed) + reader->declarations.loaded) {
         fault_set(reader->fault, FAULT_OUTSIDE, place_of(reader->start.position), "over a limit of this program: too many declarations of namespaces are in scope");
     }
-    if (default_count == 0) {
-        return;
-    }
-    uint64_t cost = defaults * defaults / COST_OF_DEFAULTS;
     for (const xmlChar **at = attributes + 5 * (attribute_count - default_count); default_count > 0; default_count--, at += 5) {
         cost += at[3] == NULL ? 0 : (uint64_t)(at[4] - at[3]);
     }
-    if (!declarations_count(&reader->declarations, cost)) {
-        fault_set(reader->fault, FAULT_OUTSIDE, place_of(reader->start.position), "attributes by default of more than 100 times the document's length: outside the profile");
-    }
+    count_defaults(reader, cost);
 }
 
 /* Hands the start to the receiver. A name that is no QName is a fault, if no other is found. */
@@ -452,6 +524,9 @@ static OUT_OF_LINE void take_any_start(void *context, const xmlChar *local, cons
     start->name = name_of(reader, local, prefix, uri);
     start->has_fleeting_name = start->name == &reader->names.other;
     add_declarations(reader, start, namespace_count, namespaces);
+    if (reader->declarations.has_marks) {
+        check_marks(reader, start);
+    }
     if (reader->feed.decoding.is_1_1 && is_good(reader)) {
         read_1_1(reader, start, (size_t)default_count);
     }
@@ -462,7 +537,7 @@ static OUT_OF_LINE void take_any_start(void *context, const xmlChar *local, cons
     start->has_fleeting_name = false;
     reader->has_double = false;
     reader->has_undeclared = false;
-    reader->is_unusual = reader->declarations.default_count > 0 || reader->withdrawn.count > 0;
+    reader->is_unusual = reader->declarations.default_count > 0 || reader->declarations.has_marks || reader->withdrawn.count > 0;
 }
 
 /* Whether a start tag is usual: in the document, of a known name, with nothing that is declared or that is there by default. */
@@ -584,8 +659,13 @@ static struct position instruction_position(struct reader *reader) {
 
 static void take_instruction(void *context, const xmlChar *target, const xmlChar *data) {
     struct reader *reader = context;
+    struct span span = span_of(data);
+    size_t mark = strlen(instruction_mark);
+    if (!feed_is_read(&reader->feed) && span.length > mark && memcmp(span.data, instruction_mark, mark) == 0 && span.data[mark] == '%') {
+        span = (struct span){span.data + mark, span.length - mark};
+    }
     if (is_good(reader)) {
-        reader->sink.instruction(reader->sink.context, instruction_position(reader), span_of(target), span_of(data));
+        reader->sink.instruction(reader->sink.context, instruction_position(reader), span_of(target), span);
     }
 }
 
@@ -629,12 +709,28 @@ static xmlParserInputPtr give_input(void *context, const xmlChar *public, const 
     return declarations_input(&reader->declarations, public, system);
 }
 
+/* The text that libxml2 is to keep of an entity. Free the bytes. */
+static xmlChar *kept_text(struct reader *reader, int type, xmlChar *text, struct bytes *written) {
+    const char *begin = (const char *)text;
+    if (type != XML_INTERNAL_PARAMETER_ENTITY || text == NULL || strstr(begin, "<?") == NULL || strchr(begin, '%') == NULL) {
+        return text;
+    }
+    entity_text_declarations((struct span){begin, strlen(begin)}, written);
+    const char *kept = bytes_text(written);
+    if (written->failed) {
+        out_of_memory(reader);
+    }
+    return (xmlChar *)kept;
+}
+
 static void take_entity(void *context, const xmlChar *name, int type, const xmlChar *public, const xmlChar *system, xmlChar *text) {
     struct reader *reader = context;
+    struct bytes written = NO_BYTES;
     bool is_parameter = type == XML_INTERNAL_PARAMETER_ENTITY || type == XML_EXTERNAL_PARAMETER_ENTITY;
     declarations_entity(&reader->declarations, is_parameter, text);
     bool is_first = is_parameter || xmlGetDocEntity(reader->feed.parser->myDoc, name) == NULL;
-    xmlSAX2EntityDecl(reader->feed.parser, name, type, public, system, text);
+    xmlSAX2EntityDecl(reader->feed.parser, name, type, public, system, kept_text(reader, type, text, &written));
+    bytes_free(&written);
     if (!is_parameter && is_first) {
         declarations_declared(&reader->declarations, name);
     }
@@ -670,7 +766,9 @@ static void take_element(void *context, const xmlChar *name, int type, xmlElemen
 
 static xmlEntityPtr give_general(void *context, const xmlChar *name) {
     struct reader *reader = context;
-    return declarations_general(&reader->declarations, name);
+    xmlEntityPtr entity = declarations_general(&reader->declarations, name);
+    reader->is_unusual |= reader->declarations.has_marks;
+    return entity;
 }
 
 static xmlEntityPtr give_parameter(void *context, const xmlChar *name) {
@@ -894,6 +992,7 @@ void read_events(const struct byte_source *source, const struct event_sink *sink
     read_by_libxml2(reader);
     feed_close(&reader->feed);
     withdrawn_free(&reader->withdrawn);
+    bytes_free(&reader->values);
     free(reader->attributes);
     free(reader->declared);
     free(reader);

@@ -63,6 +63,39 @@ bool withdrawn_add(struct withdrawn *withdrawn, struct span prefix, size_t depth
     return true;
 }
 
+bool withdrawn_has(const struct withdrawn *withdrawn, struct span prefix) {
+    return withdrawn->is_begun && last_of(withdrawn, withdrawn->outer, withdrawn->count, prefix) != NULL;
+}
+
+static bool is_blank(char byte) {
+    return byte == ' ' || byte == '\t' || byte == '\n';
+}
+
+/* Whether a declaration of the prefix begins the text. */
+static bool declares(struct span text, struct span prefix) {
+    static const char begin[] = "xmlns:";
+    size_t length = sizeof begin - 1 + prefix.length;
+    bool is_name = text.length > length && memcmp(text.data, begin, sizeof begin - 1) == 0 &&
+                   memcmp(text.data + sizeof begin - 1, prefix.data, prefix.length) == 0;
+    return is_name && (text.data[length] == '=' || is_blank(text.data[length]));
+}
+
+size_t withdrawn_count(struct span tag, struct span prefix) {
+    size_t count = 0;
+    char quote = '\0';
+    for (size_t at = 1; at < tag.length; at++) {
+        char byte = tag.data[at];
+        if (quote != '\0') {
+            quote = byte == quote ? '\0' : quote;
+        } else if (byte == '"' || byte == '\'') {
+            quote = byte;
+        } else if (is_blank(tag.data[at - 1])) {
+            count += declares((struct span){tag.data + at, tag.length - at}, prefix);
+        }
+    }
+    return count;
+}
+
 /* Whether the declaration takes a prefix back. `xml` and `xmlns` never are. libxml2 passes such a declaration over unless it is there by default. */
 static bool takes_back(const struct event_declaration *declaration) {
     struct span prefix = declaration->prefix;

@@ -29,6 +29,12 @@ void withdrawn_free(struct withdrawn *withdrawn);
 /* Takes a prefix that the tag which is being read takes back. `depth` is that of its element. False: the tag takes it back twice. */
 bool withdrawn_add(struct withdrawn *withdrawn, struct span prefix, size_t depth);
 
+/* Whether the tag that is being read takes the prefix back, as far as libxml2 has told. */
+bool withdrawn_has(const struct withdrawn *withdrawn, struct span prefix);
+
+/* How many declarations of the prefix a tag has, by its text. */
+size_t withdrawn_count(struct span tag, struct span prefix);
+
 /* Takes a tag, whose declarations are in `declared`. It loses those that take a prefix back, since they declare none. Returns one of a prefix that the tag also
  * takes back; NULL: there is none. */
 const struct event_declaration *withdrawn_take(struct withdrawn *withdrawn, struct event_declaration *declared, struct start_event *start);

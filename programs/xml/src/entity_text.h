@@ -1,0 +1,39 @@
+/* Writes the text of an entity for libxml2 where libxml2 would read another text than XML does: it takes a carriage return for a line feed, and a blank that
+ * a reference gives in the value of an attribute for a space, and a percent sign of an instruction for a reference. */
+#ifndef ENTITY_TEXT_H
+#define ENTITY_TEXT_H
+
+#include "bytes.h"
+
+/* Adds what a reference to an entity gives in the value of an attribute. */
+struct entity_source {
+    void (*add)(void *context, struct span name, struct bytes *text);
+    void *context;
+};
+
+/* Whether a text has a reference to a blank other than a space, as `&#9;`. */
+bool has_blank_reference(struct span text);
+
+/* Takes the text up to the next reference to an entity off the front. False: there is none. */
+bool entity_text_next(struct span *rest, struct span *name);
+
+/* Adds the text of a parameter entity, with this mark before each percent sign that begins the data of an instruction: libxml2 takes it for a reference. */
+extern const char instruction_mark[];
+void entity_text_declarations(struct span text, struct bytes *to);
+
+/* Adds the text of an entity for content: carriage returns as references, and in the tags no references to entities. */
+void entity_text_content(struct span text, const struct entity_source *source, struct bytes *to);
+
+/* Adds the text of an entity for the value of an attribute in such a tag. */
+void entity_text_value(struct span text, const struct entity_source *source, struct bytes *to);
+
+/* Adds the text of an entity for a value of the document itself: libxml2 gets a mark for each reference to a blank. No document has the marks. */
+void entity_text_marked(struct span text, struct bytes *to);
+
+/* Whether a value has marks. */
+bool has_blank_marks(struct span value);
+
+/* Adds a value with the blanks in the place of their marks. */
+void add_unmarked(struct span value, struct bytes *to);
+
+#endif
