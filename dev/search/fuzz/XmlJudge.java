@@ -110,14 +110,6 @@ public class XmlJudge {
         public void ignorableWhitespace(char[] from, int at, int length) {
             text.append(from, at, length);
         }
-
-        @Override
-        public void skippedEntity(String name) throws SAXException {
-            if (!name.startsWith("%") && !name.startsWith("[")) {
-                endText();
-                line('&', name);
-            }
-        }
     }
 
     static XMLReader reader(boolean isClosed) throws SAXException {

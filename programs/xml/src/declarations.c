@@ -23,6 +23,8 @@ enum {
 
 const char control_character[] = "a control character by a reference, which XML 1.1 has: outside the profile";
 
+static const char too_deep[] = "more than 500 entities in one another: outside the profile";
+
 static const char *plain(const xmlChar *text) {
     return text == NULL ? "" : (const char *)text;
 }
@@ -462,6 +464,8 @@ static void put_into_value(void *context, struct span name, struct bytes *text) 
     const xmlEntity *entity = entity_of(declarations, name);
     if (declarations->written + text->length > MOST_WRITTEN) {
         refuse(declarations, "over a limit of this program: entities in attributes of entities of more than 67,108,864 bytes");
+    } else if (declarations->level->depth > MOST_LEVELS) {
+        refuse(declarations, too_deep);
     } else if (entity != NULL && entity->etype == XML_EXTERNAL_GENERAL_PARSED_ENTITY) {
         fault_set(declarations->feed->fault, FAULT_MALFORMED, declarations_place(declarations), "malformed XML: external entity '%s' in the value of an attribute",
                   plain(entity->name));
@@ -472,7 +476,7 @@ static void put_into_value(void *context, struct span name, struct bytes *text) 
     } else if (gives_control(declarations, plain(entity->content))) {
         refuse(declarations, control_character);
     } else if (count_reference(declarations, entity)) {
-        const struct level level = {entity, declarations->level};
+        const struct level level = {entity, declarations->level, declarations->level->depth + 1};
         declarations->level = &level;
         entity_text_value((struct span){plain(entity->content), (size_t)entity->length}, &(struct entity_source){put_into_value, declarations}, text);
         declarations->level = level.outer;
@@ -512,7 +516,7 @@ static struct twin *written_of(struct declarations *declarations, xmlEntityPtr e
     struct bytes text = NO_BYTES;
     struct twin *twins = twins_of(declarations, entity);
     if (twins != NULL && twins->written == NULL) {
-        const struct level level = {entity, NULL};
+        const struct level level = {entity, NULL, 0};
         declarations->level = &level;
         entity_text_content((struct span){plain(entity->content), (size_t)entity->length}, &(struct entity_source){put_into_value, declarations}, &text);
         declarations->level = NULL;
@@ -586,7 +590,7 @@ static void check_height(struct declarations *declarations, const xmlEntity *ent
     if (declarations->heights == NULL) {
         out_of_memory(declarations);
     } else if (height_of(declarations, entity, 0) > MOST_LEVELS) {
-        refuse(declarations, "more than 500 entities in one another: outside the profile");
+        refuse(declarations, too_deep);
     }
 }
 

@@ -34,6 +34,7 @@ struct twin {
 struct level {
     const xmlEntity *entity;
     const struct level *outer;
+    size_t depth;
 };
 
 struct declarations {

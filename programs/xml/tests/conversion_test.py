@@ -166,10 +166,15 @@ class Encodings(Converted):
             out = self.pyx(declared.format(name).encode() + given + b"</a>").decode()
             self.assertEqual("".join(line[1:] for line in out.split("\n") if line[:1] == "-"), wanted, name)
 
+    def test_line_ends_of_ebcdic(self):
+        for name, wanted in (("IBM037", b"(a\n-\\n\\n\\n\n)a\n"), ("IBM1047", b"(a\n-\\n\xc2\x85\\n\n)a\n")):
+            data = f"<?xml version='1.0' encoding='{name}'?>\u0085<a>\u0085\n\r</a>".encode("cp037")
+            self.assertEqual(self.pyx(data), wanted, name)
+
     def test_a_mark_and_a_declaration_that_differ(self):
-        for encoding in ("ISO-8859-1", "EUC-JP", "US-ASCII"):
-            self.assertRegex(self.fault(b"\xef\xbb\xbf" + f'<?xml version="1.0" encoding="{encoding}"?><a>\u00e9</a>'.encode())[2],
-                             f"the byte order mark says UTF-8, and the declaration {encoding}: outside the profile")
+        for encoding in ("ISO-8859-1", "EUC-JP", "windows-1252"):
+            data = f'<?xml version="1.0" encoding="{encoding}"?><a>\u00e9</a>'.encode()
+            self.assertEqual(self.pyx(b"\xef\xbb\xbf" + data), b"(a\n-" + "\u00e9".encode().decode(encoding).encode() + b"\n)a\n")
         self.assertEqual(self.pyx(b"\xef\xbb\xbf" + '<?xml version="1.0" encoding="utf-8"?><a>\u00e9</a>'.encode()), "(a\n-\u00e9\n)a\n".encode())
 
     def test_a_byte_order_mark_is_no_column(self):
@@ -199,9 +204,17 @@ class UnreadDtd(Converted):
         self.undeclared('<!DOCTYPE a SYSTEM "d"><a x="&ext;"/>', (1, 24))
         self.undeclared('<!DOCTYPE a PUBLIC "p" "d">\n<a>\n <b y="1&gt;" x=\'1 > &lt;&\u00e9xt;\'/></a>', (3, 2), "\u00e9xt")
         self.undeclared('<!DOCTYPE a [<!ENTITY % p SYSTEM "d">%p;]><a x="&ext;"/>', (1, 43))
-        self.undeclared('<!DOCTYPE a [<!ENTITY % p "">%p;]><a x="&ext;"/>', (1, 35))
-        self.undeclared('<!DOCTYPE a [%p;]><a x="&ext;"/>', (1, 19))
         self.undeclared('<!DOCTYPE a SYSTEM "d"><a>' + "<b/>" * 40_000 + '<b x="' + "y" * 5_000 + '&ext;"/></a>', (1, 160_027))
+
+    def test_entities_that_are_declared_nowhere(self):
+        nothing = "note: entity 'ext' is not declared: it is read as nothing"
+        for subset, body, wanted in (
+                ('<!ENTITY % p "">%p;', '<a x="1&ext;2">3&ext;4</a>', b"(a\nAx 12\n-34\n)a\n"), ("%p;", '<a x="&ext;"/>', b"(a\nAx \n)a\n"),
+                ('%p;<!ENTITY e "<b x=\'1&ext;\'>&ext;</b>">', "<a>&e;&e;</a>", b"(a\n(b\nAx 1\n)b\n(b\nAx 1\n)b\n)a\n")):
+            for encoding in ("utf-8", "utf-16"):
+                with self.subTest(subset=subset):
+                    out, _, reported, status = self.converted(f"<!DOCTYPE a [{subset}]>{body}".encode(encoding))
+                    self.assertEqual((out, status, reported[-1].split(": ", 1)[1]), (wanted, 0, nothing))
 
     def test_entities_in_entities(self):
         self.undeclared('<!DOCTYPE a SYSTEM "d" [<!ENTITY e "&f;"><!ENTITY f "&#38;ext;">]><a x="&e;"/>', (1, 67))
@@ -233,9 +246,10 @@ class UnreadDtd(Converted):
 
     def test_declarations_behind_an_unread_parameter_entity(self):
         behind = "a declaration behind a parameter entity that is not loaded"
-        for name in ("p", "q"):
+        for names in ("%p;", "%p;%q;", "%q;%p;"):
             for declaration in ('<!ATTLIST a own CDATA "d">', '<!ENTITY e "v">', '<!ENTITY % r "">'):
-                self.outside(f'<!DOCTYPE a [<!ENTITY % p SYSTEM "d">%{name};\n {declaration}]><a/>', (2, 2), behind)
+                self.outside(f'<!DOCTYPE a [<!ENTITY % p SYSTEM "d">{names}\n {declaration}]><a/>', (2, 2), behind)
+        self.assertEqual(self.converted('<!DOCTYPE a [<!ENTITY % p SYSTEM "d">%q;<!ATTLIST a own CDATA "d">]><a/>')[0], b"(a\nAown d\n)a\n")
         harmless = '<!-- <!ENTITY e "v"> --><!ELEMENT a ANY><!NOTATION n SYSTEM "<!ENTITY"><?p <!ATTLIST a b CDATA "1"?>'
         self.assertEqual(self.converted(f'<!DOCTYPE a [<!ENTITY % p SYSTEM "d">%p;{harmless}]><a/>')[0][-6:], b"(a\n)a\n")
 
@@ -250,8 +264,14 @@ class UnreadDtd(Converted):
                 chain = f'<!ENTITY {name}e0 "">' + "".join(f'<!ENTITY {name}e{number + 1} "{mark}e{number};">' for number in range(count))
                 last = f"]><a>&e{count};</a>" if name == "" else f"%e{count};]><a/>"
                 _, _, reported, status = self.converted(f"<!DOCTYPE a [{chain}{last}")
-                limit = "more than 500 entities that refer to others: outside the profile"
+                limit = f"more than 500 {'parameter entities that refer to others' if name else 'entities in one another'}: outside the profile"
                 self.assertEqual((status, reported[-1:] == [] or reported[-1].endswith(limit)), (0 if count < 500 else 2, True), reported)
+
+    def test_many_entities_that_refer_to_others(self):
+        many = "".join(f'<!ENTITY e{number} "&lt;&f;">' for number in range(10_000))
+        self.assertEqual(self.pyx(f'<!DOCTYPE a [<!ENTITY f "v">{many}]><a>&e0;&e9999;</a>'), b"(a\n-<v<v\n)a\n")
+        looped = self.fault(f'<!DOCTYPE a [{many}<!ENTITY f "&g;"><!ENTITY g "&f;">]><a>&e0;</a>')
+        self.assertEqual(looped[2], "malformed XML: recursive entity reference")
 
     def test_a_document_that_stands_alone(self):
         declared = '<?xml version="1.0" standalone="yes"?>'
@@ -348,8 +368,11 @@ class NewVersion(Converted):
         self.assertEqual(self.pyx(f"{self.HEAD}<a xmlns:p='u'><b xmlns:p=''><c/></b><p:d/></a>"), b"(a\nAxmlns:p u\n(b\n(c\n)c\n)b\n(p:d\n)p:d\n)a\n")
         found = self.fault(f"{self.HEAD}<a xmlns:p='u'>\n<b xmlns:p=''>\n<p:c/></b></a>")
         self.assertEqual(found, (3, 1, "malformed XML: the prefix 'p' is not declared"))
-        found = self.fault(f"{self.HEAD}<!DOCTYPE a [<!ATTLIST a xmlns:p CDATA 'u'>]>\n<a xmlns:p=''/>")
-        self.assertEqual(found, (2, 1, "a prefix that XML 1.1 lets an element take back, which a DTD declares: outside the profile"))
+        declared = f"{self.HEAD}<!DOCTYPE a [<!ATTLIST a xmlns:p CDATA 'u'><!ENTITY e \"<a xmlns:p=''/>\">]>\n"
+        self.assertEqual(self.pyx(f"{declared}<b><a x=' xmlns:p=1' xmlns:p=''/></b>"), b"(b\n(a\nAx  xmlns:p=1\n)a\n)b\n")
+        self.assertEqual(self.fault(f"{declared}<a xmlns:p='' xmlns:p='u'/>"), (2, 1, "malformed XML: the attribute xmlns:p is there twice"))
+        found = self.fault(f"{declared}<b>&e;</b>")
+        self.assertEqual(found, (2, 4, "a prefix that XML 1.1 lets an element of an entity take back, which a DTD declares: outside the profile"))
 
     def test_time_of_prefixes(self):
         """It does not grow with the product of those that are taken back and of the tags."""
