@@ -4,4 +4,5 @@ pub mod Events
 pub mod Expected
 pub mod Handles
 pub mod Held
+pub mod Options
 pub mod Reasons

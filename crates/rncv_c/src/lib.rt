@@ -17,6 +17,7 @@ ghost use Rattle.rncv_c.specs.views.Calls.{HasBegun, HasEnded, HasTaken, IsInval
 ghost use Rattle.rncv_c_values.specs.views.Datatypes.{set_of};
 ghost use Rattle.rncv_c.specs.views.Events as of_events;
 ghost use Rattle.rncv_c.specs.views.Expected.{HoldsNoDocument, IsExpectationIn, IsTagText};
+ghost use Rattle.rncv_c.specs.views.Options.{HasNoOptions, IsOfTexts, IsOptionsText, StillHasTaken, beginning_in};
 ghost use Rattle.rncv_c.specs.views.Reasons.{IsHeldBy, IsReplacementText, TellsEndReason, TellsStartReason};
 ghost use Rattle.rncv_c_values.specs.views.Files.{AreNamed, files_of, main_of};
 ghost use Rattle.rncv_c.specs.views.Held.{document_in, events_in, grammar_in, schema_in};
@@ -28,10 +29,12 @@ mod documents;
 mod events;
 mod expected;
 mod handle;
+mod options;
 mod reasons;
 mod schemas;
 
 use handle::Handle;
+use options::TagBytes;
 use rncv_c_values::{
     AttributeBytes, Judgement, NameBytes, ReasonNumbers, Refusal, SchemaFile, Status, set_of_number,
 };
@@ -508,6 +511,58 @@ pub extern "C" fn rncv_events_end_reason(
         }
         Err(status) => status.code(),
     }
+}
+
+/// Writes what a start of this name may have after these attributes in the document of events that the handle holds, and behind
+/// it what the value of an attribute of the other name may be there, as text, to the buffer if it fits, and reports its length
+/// in `count`. `tag_text` of `expected_text` has the lines of the first, and `expected_text` those of the second: the first word
+/// of a line tells which it is. If no continuation is valid, it is about what could have come before the event that made it so.
+///
+/// Returns 0 on success; 1 if nothing is left after the attributes; 2 only if a document of events is begun and a text is not
+/// UTF-8; 3 when out of memory, and then later calls for the document may return it; 4 exactly if no document of events is
+/// begun; 5 if the text does not fit, and then nothing is written to the buffer. Costs what `EventDocument::tag_options` costs,
+/// the text, and two copies. RELAX NG Specification, sections 6.2.7 and 6.2.8.
+#[unsafe(no_mangle)]
+pub extern "C" fn rncv_events_tag_options(
+    alloc: Global,
+    schema: &mut Handle,
+    uri: &[u8],
+    local: &[u8],
+    attributes: &[AttributeBytes<'_>],
+    named_uri: &[u8],
+    named_local: &[u8],
+    buffer: &mut [u8],
+    count: &mut usize,
+) -> i32
+    ensures done { result ≡ pos 0 → IfSome (events_in schema.old.held) (λ old. IsSomeAnd (events_in schema.new.held)
+        (λ new. IsWritten (IsOptionsText (beginning_in (name_in uri.now local.now) attributes.now (name_in named_uri.now named_local.now)) old new)
+        count.new buffer.old buffer.new)) }
+    ensures space { result ≡ pos 5 → IfSome (events_in schema.old.held) (λ old. IsSomeAnd (events_in schema.new.held)
+        (λ new. IsTooLong (IsOptionsText (beginning_in (name_in uri.now local.now) attributes.now (name_in named_uri.now named_local.now)) old new)
+        count.new buffer.old)) }
+    ensures refused { result ≡ pos 1 → IfSome (events_in schema.old.held) (λ old. IsSomeAnd (events_in schema.new.held)
+        (HasNoOptions (beginning_in (name_in uri.now local.now) attributes.now (name_in named_uri.now named_local.now)) old)) }
+    ensures misuse { (result ≡ pos 4) ↔ (events_in schema.old.held ≡ None) }
+    ensures malformed { result ≡ pos 2 → ¬ (IsOfTexts (beginning_in (name_in uri.now local.now) attributes.now (name_in named_uri.now named_local.now))) }
+    ensures texts { result ≢ pos 2 → result ≢ pos 3 → result ≢ pos 4
+        → IsOfTexts (beginning_in (name_in uri.now local.now) attributes.now (name_in named_uri.now named_local.now)) }
+    ensures others { result ≢ pos 0 → result ≢ pos 1 → result ≢ pos 2 → result ≢ pos 4 → result ≢ pos 5 → result ≡ pos 3 }
+    ensures failed { result ≢ pos 0 → buffer.new ≡ buffer.old }
+    ensures untold { result ≢ pos 0 → result ≢ pos 5 → count.new ≡ count.old }
+    ensures kept { grammar_in schema.new.held ≡ grammar_in schema.old.held }
+    ensures taken { IfSome (events_in schema.old.held) (λ old. IsSomeAnd (events_in schema.new.held) (StillHasTaken old)) }
+    ensures same_if_misuse { result ≡ pos 4 → schema.new.held ≡ schema.old.held }
+    ensures same_if_malformed { result ≡ pos 2 → schema.new.held ≡ schema.old.held }
+{
+    let tag = TagBytes {
+        name: NameBytes { uri, local },
+        attributes,
+        named: NameBytes {
+            uri: named_uri,
+            local: named_local,
+        },
+    };
+    options::tag_options(alloc, schema, tag, buffer, count).code()
 }
 
 /// Reports in `count` how many bytes the handle holds of the text behind the last start or end of its document of events. They
