@@ -122,7 +122,8 @@ enum {
 /* The statuses. The comment of each function names those that it returns besides RNCV_DONE. */
 enum {
     RNCV_DONE = 0,      /* the call did what it says */
-    RNCV_REFUSED = 1,   /* the files of the schema break a clause; rncv_datatype_place: a file has no place to report */
+    RNCV_REFUSED = 1,   /* the files of the schema break a clause; rncv_datatype_place: a file has no place to report; rncv_events_tag_options: nothing is left
+                           behind the attributes */
     RNCV_MALFORMED = 2, /* the document breaks a clause; or it came as events, and no document begins with them */
     RNCV_MEMORY = 3,    /* out of memory */
     RNCV_MISUSE = 4,    /* the handle does not hold what the call needs, or an argument is wrong */
@@ -333,6 +334,30 @@ int32_t rncv_expected(rncv_schema *schema, uint8_t *buffer, size_t size, size_t 
  * unchanged. The document goes on in each case. The caller owns `buffer`. Only one thread at a time may use the handle. */
 int32_t rncv_expected_tag(rncv_schema *schema, const uint8_t *uri, size_t uri_length, const uint8_t *local, size_t local_length, uint8_t *buffer, size_t size,
                           size_t *length);
+
+/* Writes what a start of this name may have behind these `count` attributes in the document of events in progress, and what the value of an attribute named
+ * `named_uri` and `named_local` may be there, as text, to `buffer`, which has `size` bytes, and the text's length to `length`. `named_uri` may be NULL if
+ * `named_uri_length` is 0, and `named_local` if `named_local_length` is 0; the other arguments are as for rncv_events_start. If no continuation is valid, the
+ * start is in place of the event after which none is: a caller that passes that start with the attributes before the one at fault, and its name as the one
+ * asked for, gets what could have been there. The text has lines, as that of rncv_expected has. The first word of a line tells what it is about:
+ *
+ *     attribute CLASS            it may still have an attribute with one of these names
+ *     required {URI}local        it still needs this attribute
+ *     text                       the value may be any text, or one that a datatype, a value or a list takes
+ *     value LIBRARY NAME TEXT    the value may be this text of this datatype
+ *     datatype LIBRARY NAME      the value may be a text of this datatype
+ *
+ * It is told by what is left of the pattern behind the attributes: an attribute that came is gone, unless more of its class may come. An attribute counts where
+ * its pattern is, as for rncv_expected_tag; it is required if what is left cannot be completed without it. Where alternatives exclude one another, the order of
+ * the attributes counts. Costs what rncv_events_start costs, and a pass over what is left. The document goes on as before.
+ *
+ * RNCV_REFUSED: nothing is left behind these attributes, as rncv_events_start_reason tells. RNCV_MALFORMED: a text is not UTF-8. RNCV_SPACE: the text does not
+ * fit; nothing is written to `buffer`, and `length` is the number of bytes that it needs. RNCV_MEMORY: out of memory, or a call for the document was; later
+ * calls for it may return the same. RNCV_MISUSE: no document of events is in progress. But for RNCV_SPACE `length` is then unchanged. The caller owns `buffer`.
+ * Only one thread at a time may use the handle. */
+int32_t rncv_events_tag_options(rncv_schema *schema, const uint8_t *uri, size_t uri_length, const uint8_t *local, size_t local_length,
+                                const rncv_attribute *attributes, size_t count, const uint8_t *named_uri, size_t named_uri_length, const uint8_t *named_local,
+                                size_t named_local_length, uint8_t *buffer, size_t size, size_t *length);
 
 /* Writes what may come in place of the text behind the last start or end of the document of events in progress, as rncv_expected writes it, to `buffer`. If no
  * continuation is valid, it is what could have come in place of the text before the event after which none is. If there is no such text, or a blank one, it is

@@ -257,6 +257,36 @@ static int reasons_once(void) {
     return status == RNCV_DONE;
 }
 
+/* Asks what a tag may have behind an attribute: returns 1 if it is written, 0 if a call ran out of memory. */
+static int options_once(void) {
+    static const char wanted[] = "attribute * except ( {}b )\nattribute {}b\nrequired {}b\ntext\nvalue  token 1\n"
+                                 "datatype http://www.w3.org/2001/XMLSchema-datatypes NCName\n";
+    static const uint8_t u[] = "u";
+    static const uint8_t names[] = "abd";
+    rncv_attribute given = {u, 1, (const uint8_t *)"c", 1, (const uint8_t *)"", 0};
+    rncv_schema schema = RNCV_NOTHING;
+    uint8_t buffer[256] = {'.'};
+    size_t length = 99;
+    int32_t status = compile("default namespace = \"u\" element a { attribute b { \"1\" | xsd:NCName }, attribute * - b { text }* }", &schema);
+    if (status == RNCV_DONE) {
+        status = rncv_events_begin(&schema);
+    }
+    if (status == RNCV_DONE) {
+        status = rncv_events_tag_options(&schema, u, 1, names, 1, &given, 1, NULL, 0, names + 1, 1, buffer, sizeof buffer, &length);
+        CHECK(status == RNCV_MEMORY ? length == 99 && buffer[0] == '.' : status == RNCV_DONE);
+        CHECK(status == RNCV_MEMORY || (length == sizeof wanted - 1 && memcmp(buffer, wanted, length) == 0));
+    }
+    size_t held = 99;
+    if (status == RNCV_MEMORY && rncv_events_held(&schema, &held) == RNCV_DONE) {
+        /* the document stays, or each later call for it runs out of memory too */
+        first = last = -1;
+        int32_t later = rncv_events_tag_options(&schema, NULL, 0, names + 2, 1, NULL, 0, NULL, 0, names, 1, buffer, sizeof buffer, &length);
+        CHECK((later == RNCV_REFUSED || later == RNCV_MEMORY) && length == 99 && buffer[0] == '.');
+    }
+    rncv_schema_free(&schema);
+    return status == RNCV_DONE;
+}
+
 /* Asks for the place of a datatype: returns 1 if it is written, 0 if the call ran out of memory. */
 static int datatype_place_once(void) {
     const char *text = "datatypes d = \"u\" element a { xsd:string { maxLength = \"1\" } | xsd:byte \"7\" | attribute b { xsd:QName } | list { d:e } }";
@@ -377,6 +407,7 @@ int main(void) {
     each_growth_of(expected_once);
     each_growth_of(expected_tag_once);
     each_growth_of(reasons_once);
+    each_growth_of(options_once);
     each_growth_of(datatype_place_once);
     each_growth_of(no_datatype_place_once);
     printf("growths: %ld\n", count);

@@ -8,6 +8,8 @@ static void no_reasons(rncv_schema *schema) {
     uint8_t buffer[1] = {'.'};
     CHECK(rncv_events_start_reason(schema, NULL, 0, (const uint8_t *)"a", 1, NULL, 0, &reason) == RNCV_MISUSE);
     CHECK(rncv_events_start_reason(schema, NULL, 0, (const uint8_t *)"\xFF", 1, NULL, 0, &reason) == RNCV_MISUSE);
+    CHECK(rncv_events_tag_options(schema, NULL, 0, (const uint8_t *)"a", 1, NULL, 0, NULL, 0, (const uint8_t *)"\xFF", 1, buffer, sizeof buffer, &length) ==
+          RNCV_MISUSE);
     CHECK(rncv_events_end_reason(schema, &reason) == RNCV_MISUSE && reason.kind == 99 && reason.attribute == 99);
     CHECK(rncv_events_held(schema, &length) == RNCV_MISUSE && length == 99);
     CHECK(rncv_expected_in_place(schema, buffer, sizeof buffer, &length) == RNCV_MISUSE && length == 99 && buffer[0] == '.');

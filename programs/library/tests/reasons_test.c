@@ -1,4 +1,4 @@
-/* Why a start or an end leaves nothing, what may come in place of a text, and what is held of it. */
+/* Why a start or an end leaves nothing, what a tag may have behind attributes, what may come in place of a text, and what is held of it. */
 #include "testing.h"
 
 #define FIGURES                                                                                                             \
@@ -7,16 +7,22 @@
     "figure = element figure { attribute id { xsd:integer }, ((attribute src { \"a\" | \"b\" } | attribute of { text })) }\n" \
     "size = element size { xsd:integer }\nnote = element note { size, text }\nsizes = element sizes { size+ }\n"
 
-/* What the calls say of a name, and of attributes in their order: names before values, up to a NULL. */
-static rncv_reason reason_of(rncv_schema *schema, const char *local, const char *const *words) {
-    rncv_attribute attributes[4];
-    rncv_reason reason = {99, 99};
+/* Makes attributes of words, names before values, up to a NULL. Returns how many there are. */
+static size_t make_attributes(rncv_attribute attributes[4], const char *const *words) {
     size_t count = 0;
     for (; words != NULL && words[2 * count] != NULL; count++) {
         const char *name = words[2 * count];
         const char *value = words[2 * count + 1];
         attributes[count] = (rncv_attribute){(const uint8_t *)"", 0, (const uint8_t *)name, strlen(name), (const uint8_t *)value, strlen(value)};
     }
+    return count;
+}
+
+/* What the calls say of a name, and of attributes in their order. */
+static rncv_reason reason_of(rncv_schema *schema, const char *local, const char *const *words) {
+    rncv_attribute attributes[4];
+    rncv_reason reason = {99, 99};
+    size_t count = make_attributes(attributes, words);
     CHECK(rncv_events_start_reason(schema, NULL, 0, (const uint8_t *)local, strlen(local), count == 0 ? NULL : attributes, count, &reason) == RNCV_DONE);
     return reason;
 }
@@ -59,6 +65,37 @@ static void check_in_place(rncv_schema *schema, const char *wanted) {
         CHECK(rncv_expected_in_place(schema, NULL, 0, &length) == RNCV_SPACE && length == size);
         CHECK(rncv_expected_in_place(schema, buffer, size - 1, &length) == RNCV_SPACE && length == size && buffer[0] == '.');
     }
+}
+
+/* Asks what a start may have behind attributes, and what the value of another may be. */
+static int32_t options_of(rncv_schema *schema, const char *local, const char *const *words, const char *named, uint8_t *buffer, size_t size, size_t *length) {
+    rncv_attribute attributes[4];
+    size_t count = make_attributes(attributes, words);
+    return rncv_events_tag_options(schema, NULL, 0, (const uint8_t *)local, strlen(local), count == 0 ? NULL : attributes, count, NULL, 0,
+                                   (const uint8_t *)named, strlen(named), buffer, size, length);
+}
+
+/* It is this text, also where only its length is asked for. */
+static void check_options(rncv_schema *schema, const char *local, const char *const *words, const char *named, const char *wanted) {
+    uint8_t buffer[512];
+    size_t length = 99;
+    size_t size = strlen(wanted);
+    memset(buffer, '.', sizeof buffer);
+    CHECK(options_of(schema, local, words, named, buffer, sizeof buffer, &length) == RNCV_DONE && length == size);
+    CHECK(memcmp(buffer, wanted, size) == 0 && buffer[size] == '.');
+    if (size > 0) {
+        memset(buffer, '.', sizeof buffer);
+        length = 99;
+        CHECK(options_of(schema, local, words, named, NULL, 0, &length) == RNCV_SPACE && length == size);
+        CHECK(options_of(schema, local, words, named, buffer, size - 1, &length) == RNCV_SPACE && length == size && buffer[0] == '.');
+    }
+}
+
+/* Nothing is left behind the attributes. */
+static void check_no_options(rncv_schema *schema, const char *local, const char *const *words) {
+    uint8_t buffer[1] = {'.'};
+    size_t length = 99;
+    CHECK(options_of(schema, local, words, "id", buffer, sizeof buffer, &length) == RNCV_REFUSED && length == 99 && buffer[0] == '.');
 }
 
 static int is_invalid_since(rncv_schema *schema, uint64_t wanted) {
@@ -104,6 +141,48 @@ static void after_a_fault(rncv_schema *schema) {
         CHECK(start(schema, 3, "any") == RNCV_DONE && text(schema, "some") == RNCV_DONE && rncv_events_end(schema, 4) == RNCV_DONE);
         CHECK(is_invalid_since(schema, 2));
     }
+}
+
+#define OF_OR_SRC "attribute {}of\nattribute {}src\n"
+#define INTEGER "datatype http://www.w3.org/2001/XMLSchema-datatypes integer\n"
+
+/* What a tag may have is what is left behind its attributes. */
+static void tags(rncv_schema *schema) {
+    CHECK(rncv_events_begin(schema) == RNCV_DONE);
+    check_no_options(schema, "figure", NULL);
+    check_options(schema, "book", NULL, "id", "");
+    begin(schema);
+    for (int turn = 0; turn < 2; turn++) {
+        check_options(schema, "figure", NULL, "src", OF_OR_SRC "attribute {}id\nrequired {}id\ntext\nvalue  token b\nvalue  token a\n");
+        check_options(schema, "figure", (const char *[]){"id", "1", NULL}, "of", OF_OR_SRC "text\n");
+        check_options(schema, "figure", (const char *[]){"id", "1", NULL}, "id", OF_OR_SRC);
+        check_options(schema, "figure", (const char *[]){"src", "a", NULL}, "id", "attribute {}id\nrequired {}id\ntext\n" INTEGER);
+        check_options(schema, "figure", (const char *[]){"src", "a", NULL}, "of", "attribute {}id\nrequired {}id\n");
+        check_options(schema, "figure", (const char *[]){"src", "a", "id", "1", NULL}, "", "");
+        check_options(schema, "size", NULL, "id", "");
+        check_no_options(schema, "figure", (const char *[]){"src", "c", NULL});
+        check_no_options(schema, "figure", (const char *[]){"src", "a", "of", "", NULL});
+        check_no_options(schema, "figure", (const char *[]){"id", "1", "id", "1", NULL});
+        check_no_options(schema, "other", NULL);
+        /* asking changes nothing; in the second turn the start is one in place of this one */
+        CHECK(is_invalid_since(schema, turn == 0 ? 0 : 2) && start(schema, 2, "figure") == RNCV_DONE && is_invalid_since(schema, 2));
+    }
+}
+
+/* Names are compared with their namespaces, and an attribute that may come again stays. */
+static void tags_with_namespaces(void) {
+    static const char wanted[] = "attribute * except ( {}b {u}a )\nattribute {u}a\nattribute {}b\nrequired {}b\ntext\nvalue  token x\n";
+    rncv_schema schema = RNCV_NOTHING;
+    uint8_t buffer[512];
+    size_t length = 99;
+    rncv_attribute other = {(const uint8_t *)"v", 1, (const uint8_t *)"a", 1, (const uint8_t *)"", 0};
+    CHECK(compile("namespace n = \"u\" element n:e { attribute b { text }, attribute n:a { \"x\" }?, attribute * - (b | n:a) { empty }* }", &schema) ==
+          RNCV_DONE);
+    CHECK(rncv_events_begin(&schema) == RNCV_DONE);
+    CHECK(rncv_events_tag_options(&schema, (const uint8_t *)"u", 1, (const uint8_t *)"e", 1, &other, 1, (const uint8_t *)"u", 1, (const uint8_t *)"a", 1, buffer,
+                                  sizeof buffer, &length) == RNCV_DONE);
+    CHECK(length == sizeof wanted - 1 && memcmp(buffer, wanted, length) == 0);
+    rncv_schema_free(&schema);
 }
 
 /* The text before a start is to blame where none may be, and where the start would leave something without it. */
@@ -171,6 +250,17 @@ static void texts_before_tags(rncv_schema *schema) {
     CHECK(text(schema, "some text") == RNCV_DONE && is_reason(reason_of(schema, "note", NULL), RNCV_REASON_NONE, 0));
 }
 
+/* No text is written for what is not UTF-8. */
+static void no_options(rncv_schema *schema, const rncv_attribute *bad) {
+    static const uint8_t figure[] = "figure";
+    size_t length = 99;
+    CHECK(rncv_events_tag_options(schema, bad->value, 1, figure, 6, NULL, 0, NULL, 0, figure, 6, NULL, 0, &length) == RNCV_MALFORMED);
+    CHECK(rncv_events_tag_options(schema, NULL, 0, bad->value, 1, NULL, 0, NULL, 0, figure, 6, NULL, 0, &length) == RNCV_MALFORMED);
+    CHECK(rncv_events_tag_options(schema, NULL, 0, figure, 6, bad, 1, NULL, 0, figure, 6, NULL, 0, &length) == RNCV_MALFORMED);
+    CHECK(rncv_events_tag_options(schema, NULL, 0, figure, 6, NULL, 0, bad->value, 1, figure, 6, NULL, 0, &length) == RNCV_MALFORMED);
+    CHECK(rncv_events_tag_options(schema, NULL, 0, figure, 6, NULL, 0, NULL, 0, bad->value, 1, NULL, 0, &length) == RNCV_MALFORMED && length == 99);
+}
+
 static void names_without_a_document(rncv_schema *schema) {
     static const uint8_t bad[] = {0xFF};
     rncv_attribute attribute = {(const uint8_t *)"", 0, (const uint8_t *)"id", 2, bad, 1};
@@ -180,6 +270,7 @@ static void names_without_a_document(rncv_schema *schema) {
     CHECK(rncv_events_start_reason(schema, NULL, 0, bad, 1, NULL, 0, &reason) == RNCV_MALFORMED);
     CHECK(rncv_events_start_reason(schema, NULL, 0, (const uint8_t *)"figure", 6, &attribute, 1, &reason) == RNCV_MALFORMED);
     CHECK(is_reason(reason, 99, 99));
+    no_options(schema, &attribute);
     /* no such start can be, and the document goes on */
     CHECK(is_reason(reason_of(schema, "a b", NULL), RNCV_REASON_ELEMENT, 0) && is_reason(reason_of(schema, "", NULL), RNCV_REASON_ELEMENT, 0));
     CHECK(rncv_events_end(schema, 2) == RNCV_DONE && is_invalid_since(schema, 0));
@@ -190,6 +281,8 @@ int main(void) {
     CHECK(compile_with(FIGURES, RNCV_DATATYPES_XML_SCHEMA, &schema) == RNCV_DONE);
     names_and_attributes(&schema);
     after_a_fault(&schema);
+    tags(&schema);
+    tags_with_namespaces();
     texts_and_starts(&schema);
     ends(&schema);
     holds(&schema);

@@ -38,12 +38,12 @@ from typing import Any, BinaryIO, NamedTuple, NoReturn, Optional, Type, TypeVar,
 
 from . import _events, _schema_files, _xml
 from ._events import Attributes, EventVerdict, TreeVerdict
-from ._expected import Datatype, Expected, ExpectedTag, NameClass, Value, expected_of, tag_of
+from ._expected import Datatype, Expected, ExpectedTag, NameClass, TagOptions, Value, expected_of, tag_of
 from ._reasons import Reason, Told, reason_of
 from ._xml import XmlVerdict
 
-__all__ = ["Datatype", "Document", "EventVerdict", "Events", "Expected", "ExpectedTag", "LibraryError", "NameClass", "Place", "Reason", "SchemaError", "TreeVerdict",
-           "Validator", "Value", "Verdict", "XmlVerdict", "clause_title", "compile", "datatype_place", "mentions", "version"]
+__all__ = ["Datatype", "Document", "EventVerdict", "Events", "Expected", "ExpectedTag", "LibraryError", "NameClass", "Place", "Reason", "SchemaError", "TagOptions",
+           "TreeVerdict", "Validator", "Value", "Verdict", "XmlVerdict", "clause_title", "compile", "datatype_place", "mentions", "version"]
 __version__ = "0.9.0"
 
 Bytes = Union[bytes, bytearray, memoryview]
@@ -553,6 +553,26 @@ class Events(_InProgress):
         (uri, local), given = _events.parts_of(name), _events.array_of(attributes)
         return self._reason_by(self._validator._library.rncv_events_start_reason, uri, len(uri), local, len(local), given, len(given))
 
+    def tag_options(self, name: str, attributes: Attributes = (), named: str = "") -> Optional[TagOptions]:
+        """Returns what a start of this name may have behind these attributes, and what the value of the attribute `named` may be there; None if nothing is left
+        behind them, as `start_reason` tells. Once `invalid_since` is known, the start is in place of that event: with the attributes before the one at fault,
+        and its name as `named`, it is what could have been there. The document goes on as before.
+
+        An attribute counts where its pattern is, whether or not a value matches it. It is required if what is left cannot be completed without it. TypeError: a
+        name or a value is not text. ValueError: one has a lone surrogate. MemoryError: out of memory; later calls for this document may raise it too.
+        """
+        (uri, local), given, (named_uri, named_local) = _events.parts_of(name), _events.array_of(attributes), _events.parts_of(named)
+        words = (uri, len(uri), local, len(local), given, len(given), named_uri, len(named_uri), named_local, len(named_local))
+        with self._validator._lock:
+            self._want_progress()
+            status, text = _told_by(self._validator._library.rncv_events_tag_options, self._validator._handle, *words)
+        if status == _REFUSED:
+            return None
+        if status == _MALFORMED:
+            raise ValueError("a name or a value has a lone surrogate")
+        _want_done(status)
+        return TagOptions(tag_of(text), expected_of(text))
+
     def end_reason(self) -> Optional[Reason]:
         """Returns why the end of the innermost element leaves nothing, or None if it may come. Once `invalid_since` is known, the end is in place of that
         event. The document goes on as before. A text counts once a start or an end has come behind it. MemoryError: out of memory; later calls for this
@@ -837,15 +857,21 @@ def _hint(fault: _Fault, sources: _Sources, datatypes: int) -> tuple[Any, ...]:
 
 
 def _written_by(call: Callable[..., int], *words: Any) -> bytes:
-    """The text that a call of the library writes to a buffer. If the buffer is too small, a second call gets one that is not."""
+    """The text that a call of the library writes to a buffer."""
+    status, text = _told_by(call, *words)
+    _want_done(status)
+    return text
+
+
+def _told_by(call: Callable[..., int], *words: Any) -> tuple[int, bytes]:
+    """The status of such a call, and its text. If the buffer is too small, a second call gets one that is not."""
     length = ctypes.c_size_t(_TEXT_BYTES)
     while True:
         size = length.value
         text = ctypes.create_string_buffer(size)
         status = call(*words, text, size, length)
         if status != _SPACE:
-            _want_done(status)
-            return ctypes.string_at(text, length.value)
+            return status, ctypes.string_at(text, length.value) if status == _DONE else b""
 
 
 def _is_utf8(written: bytes) -> bool:
@@ -1063,6 +1089,8 @@ def _typed(library: ctypes.CDLL) -> ctypes.CDLL:
         ("rncv_events_held", [schema, ctypes.POINTER(size)], status),
         ("rncv_events_start_reason", [schema, ctypes.c_char_p, size, ctypes.c_char_p, size, ctypes.POINTER(_events.Attribute), size, ctypes.POINTER(Told)],
          status),
+        ("rncv_events_tag_options", [schema, *[ctypes.c_char_p, size] * 2, ctypes.POINTER(_events.Attribute), size, *[ctypes.c_char_p, size] * 3,
+                                     ctypes.POINTER(size)], status),
         ("rncv_events_end_reason", [schema, ctypes.POINTER(Told)], status),
         ("rncv_events_finish", [schema, ctypes.POINTER(_Verdict)], status),
         ("rncv_expected", [schema, ctypes.c_char_p, size, ctypes.POINTER(size)], status),

@@ -51,6 +51,14 @@ class ExpectedTag(NamedTuple):
     required: tuple[str, ...]
 
 
+class TagOptions(NamedTuple):
+    """What a start may have behind some attributes: `tag` has the attributes that may still come, and those that it still needs; `value` says what the value of
+    the attribute that was asked about may be, and has no elements."""
+
+    tag: ExpectedTag
+    value: Expected
+
+
 def tag_of(written: bytes) -> ExpectedTag:
     """What the lines of the library say of a tag."""
     lines = [line.split(" ") for line in dict.fromkeys(written.decode("utf-8").split("\n")[:-1])]

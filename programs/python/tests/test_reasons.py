@@ -104,6 +104,35 @@ class Reasons(unittest.TestCase):
             with self.assertRaises(ValueError):
                 call()
 
+    def test_tags(self):
+        integer = rncv.Datatype("http://www.w3.org/2001/XMLSchema-datatypes", "int")
+        nothing = rncv.Expected((), False, (), ())
+        with self.validator.events() as events:
+            self.assertEqual(events.tag_options("a", named="x"), rncv.TagOptions(rncv.ExpectedTag((), ()), nothing))
+            self.assertIsNone(events.tag_options("b"))
+            self.assertTrue(events.start("a"))
+            tag, value = events.tag_options("b", {"u": ""}, named="x")
+            self.assertEqual(({it.name for it in tag.attributes}, tag.required), ({"x", "{urn:p}y"}, ("x",)))
+            self.assertEqual(value, nothing._replace(text=True, datatypes=(integer,)))
+            tag, value = events.tag_options("b", [("x", "1"), ("v", "")], "{urn:p}y")
+            self.assertEqual(({it.name for it in tag.attributes}, tag.required), ({"{urn:p}y"}, ()))
+            self.assertEqual({it.text for it in value.values}, {"1", "2"})
+            for wrong in ({"x": "one"}, {"x": "1", "z": ""}, [("u", ""), ("v", "")]):
+                self.assertIsNone(events.tag_options("b", wrong))
+            # what could have been in place of the start that nothing can follow
+            self.assertTrue(events.start("b", [("x", "1"), ("u", ""), ("v", "")]))
+            tag, value = events.tag_options("b", [("x", "1"), ("u", "")], named="v")
+            self.assertEqual(({it.name for it in tag.attributes}, tag.required, value), ({"{urn:p}y"}, (), nothing))
+            self.assertEqual((events.reason, events.invalid_since()), (("attribute-not-allowed", "v"), 2))
+            for wrong in (("\ud800",), ("b", {"x": "\ud800"}), ("b", {}, "\ud800")):
+                with self.assertRaises(ValueError):
+                    events.tag_options(*wrong)
+            for wrong in ((b"b",), ("b", {"x": 1}), ("b", (), b"x")):
+                with self.assertRaises(TypeError):
+                    events.tag_options(*wrong)
+        with self.assertRaises(ValueError):
+            events.tag_options("a")
+
     def test_trees(self):
         for document, kind, attribute, at, tag in (
                 ("<a><b x='1' z=''/></a>", "attribute-not-allowed", "z", "start", "b"),
@@ -117,12 +146,13 @@ class Reasons(unittest.TestCase):
     def test_out_of_memory(self):
         """Without memory for the reason there is none, and the verdict stays."""
         library = mock.Mock(wraps=self.validator._library)  # pylint: disable=protected-access
-        library.rncv_events_start_reason = lambda *_: 3
+        library.rncv_events_start_reason = library.rncv_events_tag_options = lambda *_: 3
         with mock.patch.object(self.validator, "_library", library), self.validator.events() as events:
             self.assertTrue(events.start("b"))
             self.assertIsNone(events.reason)
-            with self.assertRaises(MemoryError):
-                events.start_reason("b")
+            for call in (events.start_reason, events.tag_options):
+                with self.assertRaises(MemoryError):
+                    call("b")
             self.assertTrue(events.end())
             verdict = events.finish()
         self.assertEqual((verdict.kind, verdict.reason), ("invalid", None))
