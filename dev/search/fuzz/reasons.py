@@ -244,7 +244,7 @@ class Reason:
     """Why a document is invalid. What does not belong to the reason is None.
 
     `names` says of each name that was tried whether its element may start in the state `state`. `texts` has the values and datatypes that may come, each as
-    (kind, type, text), and `has_text` says whether any text may. `attribute` is the one at fault, `others` has those that the tag could have besides, and
+    (kind, type, text), and `has_text` says whether any text may. `attribute` is the one at fault, `others` has those that the tag could have in its place, and
     `missing` those that it must have. `is_never` says that the element may start but that nothing is allowed in it: its name is then not expected. `scope`
     has the namespaces of the prefixes; `column` and `name` are what is there.
     """
@@ -274,14 +274,14 @@ class Reason:
         return name if kind == "data" and not others else None
 
 
-def of_attribute(patterns, fault, begun, left, name):
-    """The reason if nothing that is left takes the attribute of this name. `begun` is what was left before all attributes."""
+def of_attribute(patterns, fault, left, name):
+    """The reason if nothing that is left takes the attribute of this name."""
     takers = [it for it in patterns.attributes(left) if in_class(it.parts[0], name)]
     found = Reason(ATTRIBUTE_VALUE if takers else ATTRIBUTE, "attribute")
     found.attribute = name
     if takers:
         return found.with_texts(patterns, *map(patterns.body, takers))
-    named = set().union(*(plain_names(it.parts[0]) for it in patterns.attributes(begun)))
+    named = set().union(*(plain_names(it.parts[0]) for it in patterns.attributes(left)))
     found.others = named - {it for it, _ in fault.attributes}
     return found
 
@@ -298,7 +298,7 @@ def of_start(patterns, fault, left):
     for name, value in fault.attributes:
         before, rest = rest, patterns.derived(Patterns.attribute, rest, name, value)
         if rest is patterns.none:
-            return of_attribute(patterns, fault, begun, before, name)
+            return of_attribute(patterns, fault, before, name)
     found = Reason(MISSING, "element")
     alone = {only_name(it.parts[0]) for it in patterns.attributes(rest)} - {None}
     found.missing = {it for it in alone if patterns.is_needed(rest, it)}

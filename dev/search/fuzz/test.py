@@ -345,7 +345,7 @@ class ReasonsTest(unittest.TestCase):
                 ("(r|)r", (reasons.MISSING, "element", 1, [], [])),
                 ("(r|Ax 1|)r", (reasons.MISSING, "element", 1, [names["y"]], [])),
                 ("(r|Ax 1|Az 1|)r", (reasons.ATTRIBUTE, "attribute", 1, [names["y"], names["z"]], [])),
-                ("(r|Az 1|Ay 1|)r", (reasons.ATTRIBUTE, "attribute", 1, [names["x"], names["y"]], [])),
+                ("(r|Az 1|Ay 1|)r", (reasons.ATTRIBUTE, "attribute", 1, [names["y"]], [])),
                 ("(r|Ay t|Ax 1|)r", (reasons.ATTRIBUTE_VALUE, "attribute", 1, [names["y"]], [integer])),
                 ("(r|Az 1|- t|)r", (reasons.INCOMPLETE, "end", 12, [names["a"]], [])),
                 ("(r|Az 1|)r", (reasons.INCOMPLETE, "end", 1, [names["a"]], [integer])),
@@ -397,11 +397,10 @@ class ReasonsTest(unittest.TestCase):
                                   "--found", room, *words], capture_output=True, text=True, check=False, env={**os.environ, "REAL_PROGRAM": str(RNCV_XML)})
             return run.returncode, run.stdout + run.stderr
 
-    def test_that_only_known_kinds_are_found(self):
+    def test_that_nothing_differs(self):
         if not RNCV_XML.exists():
             self.skipTest(f"there is no {RNCV_XML}")
-        known = ("other attributes*", "texts expected for attribute-value")
-        status, reported = self.judged(RNCV_XML, *(word for it in known for word in ("--without", it)))
+        status, reported = self.judged(RNCV_XML)
         self.assertEqual(status, 0, reported)
         self.assertIn(" 0 differences", reported)
 

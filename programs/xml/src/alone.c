@@ -271,50 +271,16 @@ static bool pass_end(struct alone_telling *telling) {
     return pass_text(telling->alone) == RNCV_DONE && rncv_events_end(&telling->alone->judge->schema, ++telling->number) == RNCV_DONE;
 }
 
-/* The first line of the text, with its line feed. */
-static struct span first_line(struct span text) {
-    const char *feed = text.length == 0 ? NULL : memchr(text.data, '\n', text.length);
-    return (struct span){text.data, feed == NULL ? text.length : (size_t)(feed + 1 - text.data)};
-}
-
-static bool has_line(struct span text, struct span line) {
-    bool is_there = false;
-    for (struct span here = first_line(text); here.length > 0 && !is_there; here = first_line(text)) {
-        is_there = span_equal(here, line);
-        text = (struct span){text.data + here.length, text.length - here.length};
-    }
-    return is_there;
-}
-
-/* Adds the lines of what a tag may have; what it must have is left out where the other text does not have it. */
-static void add_lines(struct bytes *to, struct span text, struct span other) {
-    for (struct span line = first_line(text); line.length > 0; line = first_line(text)) {
-        bool is_wanted = line.data[0] != 'r' || has_line(other, line);
-        bytes_add(to, line.data, is_wanted ? line.length : 0);
-        text = (struct span){text.data + line.length, text.length - line.length};
-    }
-}
-
-/* Gets what the tag of the element may have as one of the elements that it may be, and must have as each of them. False: memory ran out. */
-static bool get_tag(const struct alone *alone, struct finding *found) {
-    const struct declared *declared = &alone->judge->declared;
-    struct alone one = *alone;
-    struct bytes text = NO_BYTES;
+/* Asks what the tag could have had as one of the other elements that the element may be. False: memory ran out. */
+static bool ask_others(struct alone_telling *telling, size_t count) {
+    struct judge *judge = telling->alone->judge;
+    struct alone other = *telling->alone;
     bool is_good = true;
-    bytes_clear(&found->tag);
-    for (uint32_t at = 0; at < declared->only_count && is_good; at++) {
-        struct bytes all = NO_BYTES;
-        one.member = declared->only[at];
-        is_good = begin(&one) == RNCV_DONE && expected_get_tag(&alone->judge->schema, finding_uri(found), finding_local(found), &text);
-        struct span own = {text.data, text.length};
-        struct span before = {found->tag.data, found->tag.length};
-        add_lines(&all, own, at == 0 ? own : before);
-        add_lines(&all, before, own);
-        is_good = is_good && !all.failed;
-        bytes_free(&found->tag);
-        found->tag = all;
+    for (uint32_t at = 0; at < judge->declared.only_count && is_good; at++) {
+        other.member = judge->declared.only[at];
+        is_good = other.member == telling->member ||
+                  (begin(&other) == RNCV_DONE && finding_ask_tag(&telling->found, &judge->schema, &judge->room, telling->reader.attributes, count));
     }
-    bytes_free(&text);
     return is_good;
 }
 
@@ -370,7 +336,7 @@ static bool find_again(struct alone_telling *telling, uint64_t number) {
         add_written(&found->around, &telling->start.name);
     }
     size_t count = is_start && telling->alone->has_attributes ? telling->event.count : 0;
-    bool is_told = finding_ask(found, &judge->schema, &judge->room, telling->reader.attributes, count) && (number != 1 || get_tag(telling->alone, found));
+    bool is_told = finding_ask(found, &judge->schema, &judge->room, telling->reader.attributes, count) && (number != 1 || ask_others(telling, count));
     return is_told && !found->text.failed && !found->around.failed;
 }
 

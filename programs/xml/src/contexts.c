@@ -79,7 +79,7 @@ static void add_element(struct contexts *contexts, uint32_t number, const struct
 static bool add_mentioned(struct contexts *contexts, uint32_t around, const struct event_name *name) {
     const struct declared_list *list = mentioned_by(contexts, around);
     for (uint32_t at = 0; at < list->count && list->is_known; at++) {
-        add_element(contexts, list->lines[at], name);
+        add_element(contexts, list->numbers[at], name);
     }
     return list->is_known;
 }

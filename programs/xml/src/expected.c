@@ -39,6 +39,19 @@ bool expected_get_tag(rncv_schema *schema, struct span uri, struct span local, s
     return status == RNCV_DONE;
 }
 
+bool expected_get_options(rncv_schema *schema, const struct event_name *name, const rncv_attribute *attributes, size_t count, const struct event_name *named,
+                          struct bytes *written, bool *is_left) {
+    size_t length = FIRST_BYTES;
+    int32_t status = RNCV_SPACE;
+    bytes_clear(written);
+    while (status == RNCV_SPACE && bytes_reserve(written, length)) {
+        status = library_tag_options(schema, name, attributes, count, named, written, &length);
+    }
+    written->length = status == RNCV_DONE ? length : 0;
+    *is_left = status == RNCV_DONE;
+    return status == RNCV_DONE || status == RNCV_REFUSED;
+}
+
 /* The fields of a line that are left. */
 struct fields {
     struct expected *expected;

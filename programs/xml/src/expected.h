@@ -2,9 +2,8 @@
 #ifndef EXPECTED_H
 #define EXPECTED_H
 
-#include "bytes.h"
+#include "library_calls.h"
 
-#include <rncv.h>
 #include <stdint.h>
 
 enum wanted_kind {
@@ -50,6 +49,11 @@ bool expected_get_tag(rncv_schema *schema, struct span uri, struct span local, s
 
 /* Gets the text of what could have come in place of the text directly before the event after which nothing can follow. False: memory ran out. */
 bool expected_get_in_place(rncv_schema *schema, struct bytes *written);
+
+/* Gets the text of what a start of this name may have behind these attributes, and of what the value of the attribute with the other name may be there.
+ * `is_left`: something is left behind the attributes; if not, the text is empty. False: memory ran out. */
+bool expected_get_options(rncv_schema *schema, const struct event_name *name, const rncv_attribute *attributes, size_t count, const struct event_name *named,
+                          struct bytes *written, bool *is_left);
 
 /* Reads such a text. False: memory ran out. Close it in each case. */
 bool expected_open(struct expected *expected, struct span written);

@@ -15,8 +15,11 @@ struct finding {
     size_t uri_length;
     rncv_reason reason;
     struct bytes expected; /* what could have come there, as the library writes it, .. */
-    struct bytes tag;      /* .. what the tag could have had, if it is a start, .. */
+    struct bytes tag;      /* .. what the tag could have had, if an attribute is not allowed, .. */
+    struct bytes options;  /* .. what it could have had behind the attributes that are right, and as the value of the one that is wrong, .. */
     struct bytes in_place; /* .. and what could have come in place of the text, if there is one */
+    bool has_options;    /* some element has these attributes that are right */
+    bool is_right_alone; /* the attribute whose value is wrong is right without the others */
     bool has_text;     /* directly before it, with more than blanks */
     struct place text_place;
     struct bytes text; /* its first characters, .. */
@@ -33,6 +36,10 @@ void finding_name(struct finding *found, const struct event_name *name);
 /* Asks why nothing can follow the start or end, and what could have been there. The document in progress is the one in which it is. An end has no attributes.
  * False: memory ran out. */
 bool finding_ask(struct finding *found, rncv_schema *schema, struct call_room *room, const struct event_attribute *attributes, size_t count);
+
+/* Asks what the tag could have had, if its attributes are wrong, by what may come next in the document in progress, and adds that to what is there by other
+ * documents. The attributes are those of `finding_ask`. False: memory ran out. */
+bool finding_ask_tag(struct finding *found, rncv_schema *schema, struct call_room *room, const struct event_attribute *attributes, size_t count);
 
 /* The name of the element. */
 struct span finding_uri(const struct finding *found);

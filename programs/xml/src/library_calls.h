@@ -50,6 +50,15 @@ static inline int32_t library_start_reason(rncv_schema *schema, const struct eve
                                     reason);
 }
 
+/* Asks what a start may have behind some attributes, and what the value of the attribute with the other name may be there. The status, and the text that is
+ * written to `buffer`, are those of rncv_events_tag_options. */
+static inline int32_t library_tag_options(rncv_schema *schema, const struct event_name *name, const rncv_attribute *attributes, size_t count,
+                                          const struct event_name *named, struct bytes *buffer, size_t *length) {
+    return rncv_events_tag_options(schema, bytes_of_span(name->uri), name->uri.length, bytes_of_span(name->local), name->local.length, attributes, count,
+                                   bytes_of_span(named->uri), named->uri.length, bytes_of_span(named->local), named->local.length, (uint8_t *)buffer->data,
+                                   buffer->capacity, length);
+}
+
 static inline int32_t library_text(rncv_schema *schema, struct span text) {
     return rncv_events_text(schema, (const uint8_t *)text.data, text.length);
 }

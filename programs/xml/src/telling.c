@@ -23,7 +23,8 @@ struct words {
     struct bytes *line;       /* the message */
     struct expected expected; /* what could have come before the start or end */
     struct expected in_place; /* what could have come in place of the text directly before it */
-    struct expected tag;      /* what the tag of a start could have had */
+    struct expected tag;      /* what the tag of a start could have had, .. */
+    struct expected options;  /* .. and behind those of its attributes that are right, and as the value of the one that is wrong */
     struct bytes near;        /* an expected name that is nearly the one that is there; empty: there is none */
     size_t distance;
 };
@@ -318,18 +319,27 @@ static bool has_context(const struct wanted_text *type) {
     return span_is(type->library, XSD) && (span_is(type->name, "QName") || span_is(type->name, "NOTATION"));
 }
 
-/* Says that a value is wrong, and what it may be. `is_whole`: the text is not cut. */
-static void say_wrong(struct words *words, const struct expected *expected, struct span text, bool is_whole) {
-    const struct wanted_text *first = expected->text_count > 0 ? &expected->texts[0] : NULL;
+/* Adds what a text may be. If that is only a datatype, it is returned. */
+static const struct wanted_text *add_wanted(struct words *words, const struct expected *expected) {
+    const struct wanted_text *only = expected->text_count == 1 ? &expected->texts[0] : NULL;
     add_texts(words, expected);
     sort_items(words->answer);
-    if (expected->text_count != 1 || first->is_value || has_context(first)) {
+    if (only == NULL || only->is_value || has_context(only)) {
+        return NULL;
+    }
+    add_datatype(&words->answer->datatype, only);
+    return only;
+}
+
+/* Says that a value is wrong, and what it may be. `is_whole`: the text is not cut. */
+static void say_wrong(struct words *words, const struct expected *expected, struct span text, bool is_whole) {
+    const struct wanted_text *first = add_wanted(words, expected);
+    if (first == NULL) {
         say(words, " is wrong");
         say_text(words, text);
         say_expected(words, "; expected ");
         return;
     }
-    add_datatype(&words->answer->datatype, first);
     struct span type = {words->answer->datatype.data, words->answer->datatype.length};
     if (is_whole && !is_of_type(words, first, text)) {
         say(words, " is no ");
@@ -391,8 +401,8 @@ static bool drop_double(struct answer *answer, size_t begin) {
 
 /* Adds the names of attributes from this one on that the tag does not have. One that is nearly `name` is kept, unless that is empty. */
 static void add_attributes(struct words *words, uint32_t class, struct span name) {
-    for (; class != 0; class = words->tag.classes[class].next) {
-        const struct wanted_class *wanted = &words->tag.classes[class];
+    for (; class != 0; class = words->options.classes[class].next) {
+        const struct wanted_class *wanted = &words->options.classes[class];
         size_t begin = words->answer->expected.length;
         if (wanted->kind == WANTED_NAME && !has_attribute(words, wanted->uri, wanted->local)) {
             add_scoped(&words->answer->expected, &words->judge->scope, wanted->uri, wanted->local, true);
@@ -405,9 +415,8 @@ static void add_attributes(struct words *words, uint32_t class, struct span name
     sort_items(words->answer);
 }
 
-/* Tells that an attribute, or its value, is wrong only beside those before it. */
-static void tell_together(struct words *words, enum reason reason) {
-    words->answer->reason = reason;
+/* Says that an attribute, or its value, is wrong only beside those before it. */
+static void say_together(struct words *words) {
     const struct event_attribute *attribute = say_attribute(words, " of ");
     say(words, " does not go with the others");
     say_text(words, attribute->value);
@@ -415,56 +424,28 @@ static void tell_together(struct words *words, enum reason reason) {
 
 static void tell_attribute_not_allowed(struct words *words) {
     const struct event_name *name = &finding_attribute(words->found)->name;
-    if (expected_has(&words->tag, name->uri, name->local)) {
-        tell_together(words, REASON_ATTRIBUTE);
-        return;
-    }
     words->answer->reason = REASON_ATTRIBUTE;
-    say_attribute(words, " is not allowed in ");
-    add_attributes(words, words->tag.first, name->local);
+    if (expected_has(&words->tag, name->uri, name->local)) {
+        say_together(words);
+    } else {
+        say_attribute(words, " is not allowed in ");
+    }
+    add_attributes(words, words->options.first, name->local);
     say_expected(words, "; expected ");
     say_near(words);
 }
 
-/* Finds what the value of the attribute may be, by lines of attributes of the schema. `fits`: its own value is one of those, or that is not known. */
-static void find_values(const struct words *words, const struct declared_list *list, struct expected *expected, bool *fits) {
-    const struct event_attribute *attribute = finding_attribute(words->found);
-    struct declared *declared = &words->judge->declared;
-    struct bytes all = NO_BYTES;
-    struct bytes written = NO_BYTES;
-    bool is_known = list->is_known;
-    *fits = false;
-    for (uint32_t at = 0; at < list->count && is_known && !*fits; at++) {
-        if (declared_has(declared, list->lines[at], &attribute->name)) {
-            is_known = declared_value(declared, list->lines[at], RNCV_DATATYPES_XML_SCHEMA, attribute->value, &written, fits);
-            bytes_add(&all, written.data, written.length);
-        }
-    }
-    is_known = is_known && !all.failed;
-    words->line->failed |= !expected_open(expected, is_known ? (struct span){all.data, all.length} : (struct span){"", 0});
-    bytes_free(&all);
-    bytes_free(&written);
-}
-
-/* Tells that the value of an attribute is wrong. If a value is one that the attribute may have, it is wrong beside the attributes before it. */
+/* Tells that the value of an attribute is wrong, or wrong only beside the attributes before it. */
 static void tell_attribute_value(struct words *words) {
-    struct declared *declared = &words->judge->declared;
-    struct declared_list list = {NULL, 0, 0, false};
-    struct expected values;
-    bool fits = false;
-    if (declared_open(declared, &words->judge->schema)) {
-        declared_find(declared, &(struct event_name){{"", 0}, finding_local(words->found), finding_uri(words->found)}, &list);
-    }
-    find_values(words, &list, &values, &fits);
-    if (fits) {
-        tell_together(words, REASON_ATTRIBUTE_VALUE);
+    words->answer->reason = REASON_ATTRIBUTE_VALUE;
+    if (words->found->is_right_alone) {
+        say_together(words);
+        add_wanted(words, &words->options);
+        say_expected(words, "; expected ");
     } else {
-        words->answer->reason = REASON_ATTRIBUTE_VALUE;
         const struct event_attribute *attribute = say_attribute(words, " of ");
-        say_wrong(words, &values, attribute->value, true);
+        say_wrong(words, &words->options, attribute->value, true);
     }
-    expected_close(&values);
-    declared_list_free(&list);
 }
 
 /* Tells that attributes are missing, and which could be there, since none is required by itself. */
@@ -472,7 +453,7 @@ static void tell_some_missing(struct words *words) {
     say(words, ": ");
     say_element(words, found_name(words));
     say(words, " lacks attributes");
-    add_attributes(words, words->tag.first, (struct span){"", 0});
+    add_attributes(words, words->options.first, (struct span){"", 0});
     say_expected(words, "; expected ");
 }
 
@@ -480,7 +461,7 @@ static void tell_some_missing(struct words *words) {
 static void tell_missing(struct words *words) {
     struct answer *answer = words->answer;
     answer->reason = REASON_MISSING;
-    add_attributes(words, words->tag.required, (struct span){"", 0});
+    add_attributes(words, words->options.required, (struct span){"", 0});
     if (answer->expected_count == 0 || answer->expected.failed) {
         tell_some_missing(words);
         return;
@@ -544,13 +525,13 @@ static bool open_expected(struct expected *expected, const struct bytes *written
 
 static bool has_failed(const struct words *words) {
     const struct answer *answer = words->answer;
-    return words->near.failed || words->expected.failed || words->in_place.failed || words->tag.failed || answer->expected.failed ||
-           answer->attribute.failed || answer->datatype.failed;
+    return words->near.failed || words->expected.failed || words->in_place.failed || words->tag.failed || words->options.failed ||
+           answer->expected.failed || answer->attribute.failed || answer->datatype.failed;
 }
 
 void tell(struct judge *judge, const struct finding *found, struct answer *answer) {
     static const struct expected nothing = {.first = 0};
-    struct words words = {judge, found, answer, &answer->message, nothing, nothing, nothing, NO_BYTES, NOT_NEAR};
+    struct words words = {judge, found, answer, &answer->message, nothing, nothing, nothing, nothing, NO_BYTES, NOT_NEAR};
     rncv_verdict verdict;
     rncv_events_finish(&judge->schema, &verdict); /* one may be in progress */
     if (found->is_lost || !finding_is_told(found)) {
@@ -559,7 +540,7 @@ void tell(struct judge *judge, const struct finding *found, struct answer *answe
     }
     set_place(&words);
     bool has_all = open_expected(&words.expected, &found->expected) && open_expected(&words.in_place, &found->in_place) &&
-                   open_expected(&words.tag, &found->tag);
+                   open_expected(&words.tag, &found->tag) && open_expected(&words.options, &found->options);
     if (has_all) {
         tell_reason(&words);
     }
@@ -567,5 +548,6 @@ void tell(struct judge *judge, const struct finding *found, struct answer *answe
     expected_close(&words.expected);
     expected_close(&words.in_place);
     expected_close(&words.tag);
+    expected_close(&words.options);
     bytes_free(&words.near);
 }

@@ -224,7 +224,7 @@ class Lines(InFolder):
                 ("<b q:y='3' x='1'/>", '60001:1: invalid: attribute q:y of <b> is wrong ("3"); expected "1" or "2"'),
                 ("<b q:y='1' x='one'/>", '60001:1: invalid: attribute x of <b> is no xsd:int ("one")'),
                 ("<b q:y='1'/>", "60001:1: invalid: <b> lacks attribute x"), ("<b/>", "60001:1: invalid: <b> lacks attribute x"),
-                ("<b x='1' v='' u=''/>", '60001:1: invalid: attribute u of <b> does not go with the others ("")'),
+                ("<b x='1' v='' u=''/>", '60001:1: invalid: attribute u of <b> does not go with the others (""); expected q:y'),
                 ("<b x='1'><e/></b>", "60001:10: invalid: <e> is not allowed here; expected <q:e>"),
                 ("<b x='1'>t<q:e/></b>", '60001:10: invalid: text is not allowed in <b> ("t"); expected <q:e>'),
                 ("<c><d/>t<d/></c>", '60001:8: invalid: text is not allowed in <c> ("t"); expected <d>'),
