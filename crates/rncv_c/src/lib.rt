@@ -18,7 +18,7 @@ ghost use Rattle.rncv_c_values.specs.views.Datatypes.{set_of};
 ghost use Rattle.rncv_c.specs.views.Events as of_events;
 ghost use Rattle.rncv_c.specs.views.Expected.{HoldsNoDocument, IsExpectationIn, IsTagText};
 ghost use Rattle.rncv_c.specs.views.Options.{HasNoOptions, IsOfTexts, IsOptionsText, StillHasTaken, beginning_in};
-ghost use Rattle.rncv_c.specs.views.Reasons.{IsHeldBy, IsReplacementText, TellsEndReason, TellsStartReason};
+ghost use Rattle.rncv_c.specs.views.Reasons.{IsHeldBy, IsReplacementText, TellsEndReason, TellsFedReason, TellsReason, TellsStartReason};
 ghost use Rattle.rncv_c_values.specs.views.Files.{AreNamed, files_of, main_of};
 ghost use Rattle.rncv_c.specs.views.Held.{document_in, events_in, grammar_in, schema_in};
 ghost use Rattle.rncv_c_values.specs.views.Mentions.{AreMentionsOf, IsRefusedAlone};
@@ -505,6 +505,35 @@ pub extern "C" fn rncv_events_end_reason(
     ensures failed { result ≡ pos 4 → schema.new.held ≡ schema.old.held }
 {
     match reasons::end_reason(alloc, schema) {
+        Ok(told) => {
+            *reason = told;
+            Status::Done.code()
+        }
+        Err(status) => status.code(),
+    }
+}
+
+/// Reports in `reason` why no continuation is valid of the document that the handle holds, in PYX or of events, or that none is
+/// known to be: what the call for that start or end reports, or kind 8 if it finds none.
+///
+/// Returns 0 on success; 3 when out of memory, in this call or in an earlier one for the document, and then each later call
+/// returns it; 4 exactly if no document is begun. Costs what `Document::reason` or `EventDocument::reason` costs. RELAX NG
+/// Specification, sections 6.2.7 and 6.2.8.
+#[unsafe(no_mangle)]
+pub extern "C" fn rncv_fault_reason(
+    alloc: Global,
+    schema: &mut Handle,
+    reason: &mut ReasonNumbers,
+) -> i32
+    ensures events { result ≡ pos 0 → IfSome (events_in schema.old.held) (λ d. IsSomeAnd (events_in schema.new.held) (TellsReason reason.new d)) }
+    ensures document { result ≡ pos 0 → IfSome (document_in schema.old.held) (λ d. IsSomeAnd (document_in schema.new.held) (TellsFedReason reason.new d)) }
+    ensures misuse { (result ≡ pos 4) ↔ HoldsNoDocument schema.old.held }
+    ensures others { result ≢ pos 0 → result ≢ pos 4 → result ≡ pos 3 }
+    ensures untold { result ≢ pos 0 → reason.new ≡ reason.old }
+    ensures kept { grammar_in schema.new.held ≡ grammar_in schema.old.held }
+    ensures failed { result ≡ pos 4 → schema.new.held ≡ schema.old.held }
+{
+    match reasons::fault_reason(alloc, schema) {
         Ok(told) => {
             *reason = told;
             Status::Done.code()

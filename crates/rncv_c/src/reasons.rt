@@ -1,10 +1,11 @@
 // Why a start or an end leaves nothing of the document of events that a handle holds, and what is held of it.
-ghost use Rattle.std.specs.Prelude.{◌≡◌, ◌≢◌, ◌↔◌, IfErr, IfOk, IfSome, IsSomeAnd, OnOk, map, string_bytes};
+ghost use Rattle.std.specs.Prelude.{◌≡◌, ◌≢◌, ◌↔◌, IfErr, IfOk, IfSome, IsErrOf, IsSomeAnd, OnOk, map, string_bytes};
 ghost use Rattle.std.specs.declared.option.Option.TheVariants.{None};
 ghost use Rattle.rncv_c_values.specs.views.Attributes.{AreTexts, attribute_of, name_of};
 ghost use Rattle.rncv_c_values.specs.views.Texts.{IsTooLong, IsWritten};
-ghost use Rattle.rncv_c.specs.views.Held.{events_in, grammar_in};
-ghost use Rattle.rncv_c.specs.views.Reasons.{IsHeldBy, IsReplacementText, TellsEndReason, TellsStartReason};
+ghost use Rattle.rncv_c.specs.views.Expected.{HoldsNoDocument};
+ghost use Rattle.rncv_c.specs.views.Held.{document_in, events_in, grammar_in};
+ghost use Rattle.rncv_c.specs.views.Reasons.{IsHeldBy, IsReplacementText, TellsEndReason, TellsFedReason, TellsReason, TellsStartReason};
 
 use crate::handle::{Handle, Held};
 use expected_text::expected_text;
@@ -13,6 +14,7 @@ use rncv_c_values::{
     text_name,
 };
 use rncv_events::{EventDocument, EventFault};
+use rncv_validator::Document;
 use rng_model::OutOfMemory;
 use std::alloc::Global;
 
@@ -106,6 +108,54 @@ fn end_numbers(document: &mut EventDocument) -> Result<ReasonNumbers, Status>
     ensures grammar { document.new.grammar ≡ document.old.grammar }
 {
     match document.end_reason() {
+        Ok(reason) => Ok(reason_to_tell(reason)),
+        Err(_) => Err(Status::Memory),
+    }
+}
+
+/// Reports why no continuation of the document that the handle holds is valid, if that is known.
+///
+/// Fails with `Misuse` exactly if no document is begun; otherwise with `Memory` when out of memory, in this call or in an earlier
+/// one for the document; then each later call fails too. Costs what `Document::reason` or `EventDocument::reason` costs.
+pub fn fault_reason(alloc: Global, schema: &mut Handle) -> Result<ReasonNumbers, Status>
+    ensures events { IfOk result (λ told. IfSome (events_in schema.old.held) (λ d. IsSomeAnd (events_in schema.new.held) (TellsReason told d))) }
+    ensures document { IfOk result (λ told. IfSome (document_in schema.old.held) (λ d. IsSomeAnd (document_in schema.new.held) (TellsFedReason told d))) }
+    ensures misuse { IsErrOf result Status.Misuse ↔ HoldsNoDocument schema.old.held }
+    ensures others { IfErr result (λ status. status ≢ Status.Misuse → status ≡ Status.Memory) }
+    ensures kept { grammar_in schema.new.held ≡ grammar_in schema.old.held }
+    ensures failed { IfErr result (λ status. status ≢ Status.Memory → schema.new.held ≡ schema.old.held) }
+{
+    let Some(mut held) = schema.take(alloc) else {
+        return Err(Status::Misuse);
+    };
+    let told = match &mut *held {
+        Held::Events(document) => fault_numbers(document),
+        Held::Document(document) => fed_fault_numbers(document),
+        Held::Schema(_) => Err(Status::Misuse),
+    };
+    schema.put(held);
+    told
+}
+
+/// Returns the numbers of why no continuation of a document of events is valid.
+fn fault_numbers(document: &mut EventDocument) -> Result<ReasonNumbers, Status>
+    ensures told { IfOk result (λ told. TellsReason told document.old document.new) }
+    ensures others { IfErr result (λ status. status ≡ Status.Memory) }
+    ensures grammar { document.new.grammar ≡ document.old.grammar }
+{
+    match document.reason() {
+        Ok(reason) => Ok(reason_to_tell(reason)),
+        Err(_) => Err(Status::Memory),
+    }
+}
+
+/// Returns the numbers of why no continuation of a document in PYX is valid.
+fn fed_fault_numbers(document: &mut Document) -> Result<ReasonNumbers, Status>
+    ensures told { IfOk result (λ told. TellsFedReason told document.old document.new) }
+    ensures others { IfErr result (λ status. status ≡ Status.Memory) }
+    ensures grammar { document.new.grammar ≡ document.old.grammar }
+{
+    match document.reason() {
         Ok(reason) => Ok(reason_to_tell(reason)),
         Err(_) => Err(Status::Memory),
     }

@@ -5,7 +5,8 @@ ghost use Rattle.rncv_c_values.specs.views.Reasons as told;
 use rng_reasons::{Reason, TagFault};
 
 /// Why a start or an end leaves nothing, as C reads it: 0 if it leaves something; 1 for a name, 2 for an attribute, 3 for the
-/// value of one, 4 for missing attributes; 5 for a text that may not be there, 6 for one that is wrong, 7 for an early end.
+/// value of one, 4 for missing attributes; 5 for a text that may not be there, 6 for one that is wrong, 7 for an early end; 8
+/// if none of these is found.
 /// The attribute is the index of one, or 0.
 #[repr(C)]
 #[derive(Clone, Copy)]
@@ -48,5 +49,6 @@ pub fn reason_to_tell(reason: Option<Reason>) -> ReasonNumbers
         Some(Reason::Text) => of_kind(5),
         Some(Reason::TextValue) => of_kind(6),
         Some(Reason::Incomplete) => of_kind(7),
+        Some(Reason::NothingMatches) => of_kind(8),
     }
 }

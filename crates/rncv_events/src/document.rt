@@ -1,5 +1,5 @@
 // Documents that are told by calls.
-ghost use Rattle.std.specs.Prelude.{◌≡◌, ◌⊎◌, [], ◌∷◌, ◌++◌, ℕ, List, IfErr, IfOk, IfSome, IsErrOf, OnErr, OnOk, Some, None, Err, false, length, map, unwrap_or};
+ghost use Rattle.std.specs.Prelude.{◌≡◌, ◌↔◌, ◌⊎◌, [], ◌∷◌, ◌++◌, ℕ, List, IfErr, IfOk, IfSome, IsErrOf, OnErr, OnOk, Some, None, Err, false, length, map, unwrap_or};
 ghost use Rattle.std.specs.Option.{option_map};
 ghost use Rattle.rng_model.specs.schema.Schema.{Schema};
 ghost use Rattle.rng_model.specs.xsd.SchemasWith.{IsValidBySchemaWith};
@@ -10,7 +10,7 @@ ghost use Rattle.rng_model.specs.matching.GrammarMatching.{reading_of};
 ghost use Rattle.rng_expected.specs.views.Next.{next_of, tag_of};
 ghost use Rattle.rng_reasons.specs.views.Options.{options_of};
 ghost use Rattle.rng_deriv_events.specs.views.Inputs.{tests_strings};
-ghost use Rattle.rng_deriv.specs.views.Followers.{HasEndReason, HasStartReason, HasTagOptions, MayFollow, MayHave, MayReplace};
+ghost use Rattle.rng_deriv.specs.views.Followers.{HasEndReason, HasStartReason, HasTagOptions, IsReason, MayFollow, MayHave, MayReplace};
 ghost use Rattle.rng_deriv.specs.views.Matchers.{Knows, trees_in};
 ghost use Rattle.rng_deriv_events.specs.views.NextEnds.{TellsEnd};
 ghost use Rattle.rncv_events.specs.views.Ending.{IsWhyNoEnd};
@@ -387,6 +387,31 @@ impl EventDocument {
         }
         let reason = self.reason_of_end()?;
         Ok(Some(reason))
+    }
+
+    /// Returns why no continuation is valid after the call of `invalid_since`, or `None` exactly if `invalid_since` returns none.
+    ///
+    /// It is what `start_reason` or `end_reason` returns for that start or end, or `NothingMatches` where they find none: by the
+    /// patterns it leaves something, but no document with it is valid. The calls that were taken stay. Fails only when out of
+    /// memory, in this call or in an earlier one; then each later call fails. Costs a copy of the tag, and what
+    /// `MatcherState::reason` costs. RELAX NG Specification, sections 6.2.7 and 6.2.8.
+    pub fn reason(&mut self) -> Result<Option<Reason>, OutOfMemory>
+        ensures knows { StillKnows self.old self.new }
+        ensures same { OnOk result ((self.new.fault ≡ self.old.fault) × (self.new.matching.progress ≡ self.old.matching.progress)) }
+        ensures reason { IfOk result (λ reason. (calls : List Event) (taken : HasTaken self.old calls)
+            → IsReason (reading_of self.old.grammar) self.old.matching.progress (trees_in self.new.matching) reason taken.events) }
+        ensures none { IfOk result (λ reason. (reason ≡ None) ↔ (failed_since self.old ≡ None)) }
+        ensures failed { OnErr result (self.new.fault ≡ Some EventFault.Memory) }
+    {
+        let Some(mut state) = self.state.take() else {
+            return Err(OutOfMemory);
+        };
+        let Ok(reason) = state.reason(self.alloc, &self.grammar) else {
+            self.fault = Some(EventFault::Memory);
+            return Err(OutOfMemory);
+        };
+        self.state = Some(state);
+        Ok(reason)
     }
 
     /// Returns whether an end may come next, or could have come before the event after which no continuation is valid.

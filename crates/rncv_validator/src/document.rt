@@ -1,5 +1,5 @@
 // Documents that are judged piece by piece.
-ghost use Rattle.std.specs.Prelude.{◌≡◌, ◌⊎◌, ◌+◌, ◌^◌, ◌<◌, ◌++◌, ℕ, List, IfErr, IfOk, IfSome, OnOk, Some, None, Err, length};
+ghost use Rattle.std.specs.Prelude.{◌≡◌, ◌↔◌, ◌⊎◌, ◌+◌, ◌^◌, ◌<◌, ◌++◌, ℕ, List, IfErr, IfOk, IfSome, OnErr, OnOk, Some, None, Err, length};
 ghost use Rattle.std.specs.Bool.{OnTrue};
 ghost use Rattle.rng_model.specs.schema.Schema.{Schema};
 ghost use Rattle.rncv_model.specs.answers.Verdict.{IsUnknownIn, IsVerdictOn, IsMalformed};
@@ -15,8 +15,8 @@ ghost use Rattle.rncv_validator.specs.views.Documents.{failed_since, told_by};
 ghost use Rattle.rncv_validator.specs.views.FedDocuments.{verdict_by};
 ghost use Rattle.pyx.specs.views.Calls.{Extends};
 ghost use Rattle.rng_model.specs.documents.EventViews.{Hands};
-ghost use Rattle.rng_deriv.specs.views.Followers.{MayFollow};
-ghost use Rattle.rng_deriv.specs.views.Matchers.{HasGoneOn};
+ghost use Rattle.rng_deriv.specs.views.Followers.{IsReason, MayFollow};
+ghost use Rattle.rng_deriv.specs.views.Matchers.{HasGoneOn, trees_in};
 ghost use Rattle.rng_expected.specs.views.Next.{next_of};
 ghost use Rattle.rng_model.specs.matching.GrammarMatching.{reading_of};
 
@@ -27,6 +27,7 @@ use rncv_model::Verdict;
 use rng_deriv::{Matcher, MatcherState, Outcome};
 use rng_expected::Expected;
 use rng_model::{OutOfMemory, PyxFault, SimpleGrammar};
+use rng_reasons::Reason;
 use std::alloc::Global;
 use std::marker::Model;
 use std::sync::Arc;
@@ -145,6 +146,33 @@ impl Document {
             unreachable!();
         };
         Ok(expected)
+    }
+
+    /// Returns why no continuation is valid after the event at the line of `invalid_since`, or `None` exactly if `invalid_since`
+    /// returns none.
+    ///
+    /// It is stated on what was left of the pattern before that event (`Reason`), as `expected` is. It is `NothingMatches` if by
+    /// the patterns the event leaves something, but no document with it is valid. What was fed stays. Fails only when out of
+    /// memory, in this call or in an earlier one; then each later call fails. Costs a copy of the tag, and what
+    /// `MatcherState::reason` costs. RELAX NG Specification, sections 6.2.7 and 6.2.8.
+    pub fn reason(&mut self) -> Result<Option<Reason>, OutOfMemory>
+        ensures grammar { self.new.grammar ≡ self.old.grammar }
+        ensures fed { (bytes : List ℕ) → HasBeenFed self.old bytes → HasBeenFed self.new bytes }
+        ensures same { OnOk result ((self.new.fault ≡ self.old.fault) × (self.new.matching.progress ≡ self.old.matching.progress)) }
+        ensures reason { IfOk result (λ reason. (bytes : List ℕ) (fed : HasBeenFed self.old bytes)
+            → IsReason (reading_of self.old.grammar) self.old.matching.progress (trees_in self.new.matching) reason fed.events) }
+        ensures none { IfOk result (λ reason. (reason ≡ None) ↔ (failed_since self.old ≡ None)) }
+        ensures failed { OnErr result (self.new.fault ≡ Some DocumentFault.Memory) }
+    {
+        let Some(mut state) = self.state.take() else {
+            return Err(OutOfMemory);
+        };
+        let Ok(reason) = state.reason(self.alloc, &self.grammar) else {
+            self.fault = Some(DocumentFault::Memory);
+            return Err(OutOfMemory);
+        };
+        put_back(&mut self.state, state);
+        Ok(reason)
     }
 
     /// Ends the document, and returns the verdict on it, and the validator for the next document.

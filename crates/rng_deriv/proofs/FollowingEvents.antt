@@ -75,7 +75,7 @@ module _ (g : Reading) (trees : List (Simple ℕ)) (l : LevelLeft) (AreSo : Alte
 
   have_left : (p : Progress) (es : List Event) → LeadUp g trees p l es → HaveLeft g AreSo p es
   have_left (progress.Going p line) es lead = leave_such es lead
-  have_left (progress.Failed line left) es w = (w.fails, leave_such w.fails.before w.left)
+  have_left (progress.Failed line left) es w = record { fails = w.fails; is = w.is; ends = w.ends; leave = leave_such w.fails.before w.left }
   have_left progress.Lost es lead = tt
 
 module _ (t : Table) (s : MatcherState) (state : IsStateBy t s) (l : LevelLeft) (is : innermost_of s.progress ≡ Some l) where

@@ -81,7 +81,7 @@ module _ (g : Reading) (keys : Keys) (old new : List (Simple ℕ)) (longer : Lon
   pub known_stays : (p : Progress) → IsProgressInside g keys old p → (es : List Event) → IsKnown g old p es → IsKnown g new p es
   known_stays (progress.Going p line) k es come = come_stays p.value line k es come
   known_stays (progress.Failed line left) inside es f =
-      record { fails = f.fails; left = lead_stays g old new (left_of left.value) f.fails.before longer inside f.left; ends = f.ends }
+      record { fails = f.fails; is = f.is; left = lead_stays g old new (left_of left.value) f.fails.before longer inside f.left; ends = f.ends }
   known_stays progress.Lost k es known = tt
 
 -- ---- a state whose table is there

@@ -5,5 +5,6 @@ mod NamesOfOneKey
 mod KeptStarts
 mod PatternRenewal
 mod FollowingEvents
+mod FailedReasons
 mod BoxedLearning
 mod GrownTables

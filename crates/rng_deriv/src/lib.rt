@@ -14,6 +14,7 @@ mod matcher;
 mod matcher_state;
 mod pattern_renewal;
 mod starts;
+mod state_reasons;
 
 pub use matcher::Matcher;
 pub use matcher_state::MatcherState;

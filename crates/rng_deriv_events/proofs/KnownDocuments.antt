@@ -25,6 +25,8 @@ use Rattle.rng_model.specs.matching.Outcomes.{KnowsName, IsValidByReading}
 use Rattle.rng_deriv_laws.specs.plain.Outcomes.{FailsAt}
 use Rattle.rng_deriv_events.specs.views.LevelsLeft.{LevelLeft}
 use Rattle.rng_deriv_events.specs.views.NextEnds.{LeadToEnd}
+use Rattle.rng_deriv_events.specs.views.FailedEvents.{IsFailedEvent}
+use Rattle.rng_deriv_events.specs.declared.failed_event.FailedEvent.{FailedEvent}
 use Rattle.rng_deriv_events.specs.views.Positions.{Leads, AddsStep, FailsWith, HasCome, IsKnown, IsLost, LeadTo, failed_line}
 use Rattle.rng_deriv_events.specs.views.OpenPositions.{OpenPosition}
 use Rattle.rng_deriv_events.specs.declared.progress.Progress.{Progress}
@@ -119,9 +121,10 @@ module _ (g : Reading) where
       last = inr (es, e.kind, refl);
     }
 
-    pub fails : (later : List (Simple ℕ)) (l : LevelLeft) (may_end : Bool) → LeadTo g later l es → LeadToEnd g may_end es
-        → list_all (λ n. is_not_allowed (tree_of new n)) q.state.now ≡ true → FailsWith g later l may_end (es ++ e ∷ []) e.line
-    fails later l may_end left ends all = record {
+    pub fails : (later : List (Simple ℕ)) (l : LevelLeft) (may_end : Bool) (event : FailedEvent) → LeadTo g later l es → LeadToEnd g may_end es
+        → IsFailedEvent event e.kind → list_all (λ n. is_not_allowed (tree_of new n)) q.state.now ≡ true
+        → FailsWith g later l may_end event (es ++ e ∷ []) e.line
+    fails later l may_end event left ends is all = record {
       fails = record {
         before = es;
         kind = e.kind;
@@ -131,14 +134,15 @@ module _ (g : Reading) where
             (subst (All (λ p. is_not_allowed p ≡ true)) (sym now) (all_pass is_not_allowed (tree_of new) q.state.now all)) d is parts;
         known = come.known;
       };
+      is = is;
       left = left;
       ends = ends;
     }
 
   -- this stays so after one more event
-  pub fails_on : (trees : List (Simple ℕ)) (l : LevelLeft) (may_end : Bool) (es : List Event) (line : ℕ) (e : Event) → FailsWith g trees l may_end es line
-      → FailsWith g trees l may_end (es ++ e ∷ []) line
-  fails_on trees l may_end es line e w =
+  pub fails_on : (trees : List (Simple ℕ)) (l : LevelLeft) (may_end : Bool) (event : FailedEvent) (es : List Event) (line : ℕ) (e : Event)
+      → FailsWith g trees l may_end event es line → FailsWith g trees l may_end event (es ++ e ∷ []) line
+  fails_on trees l may_end event es line e w =
       let f = w.fails in
       record {
         fails = record {
@@ -149,6 +153,7 @@ module _ (g : Reading) where
           cannot = f.cannot;
           known = f.known;
         };
+        is = w.is;
         left = w.left;
         ends = w.ends;
       }

@@ -138,7 +138,7 @@ pub innermost_leads : (g : Reading) (trees : List (Simple ℕ)) (p : Progress) (
 innermost_leads g trees (progress.Going p line) l es is come =
     subst (λ (l : LevelLeft). LeadTo g trees l es) (same_Some (level_in p.value) l is) (come_left g trees p.value line es come)
 innermost_leads g trees (progress.Failed line left) l es is f =
-    subst (λ (l : LevelLeft). FailsWith g trees l left.value.may_end es line) (same_Some (left_of left.value) l is) f
+    subst (λ (l : LevelLeft). FailsWith g trees l left.value.may_end left.value.event es line) (same_Some (left_of left.value) l is) f
 innermost_leads g trees progress.Lost l es is known = tt
 
 -- ---- a step from a position

@@ -1,6 +1,7 @@
 -- Views of types, and invariants.
 pub mod LevelTable
 pub mod Basis
+pub mod FailedEvents
 pub mod Innermost
 pub mod Inputs
 pub mod KeptLevels

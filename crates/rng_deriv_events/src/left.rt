@@ -11,6 +11,7 @@ ghost use Rattle.rng_deriv_events.specs.views.Numbers.{Longer};
 
 use crate::derivatives::Derivatives;
 use crate::ends::{some_end, some_end_with};
+use crate::failed_event::FailedEvent;
 use crate::held::{Held, held_or_empty};
 use crate::level_table::{LevelNumber, LevelTable};
 use crate::position::Position;
@@ -19,7 +20,8 @@ use rng_deriv_table::PatternNumber;
 use rng_model::OutOfMemory;
 use std::alloc::Global;
 
-/// What is left of the innermost open element, or of the document if no element is open.
+/// What was left of the innermost open element, or of the document if no element was open, before the event after which
+/// nothing is left.
 #[derive(Drop)]
 pub struct Left {
     /// The alternatives for what remains, given that no further string comes: one of them takes it.
@@ -35,6 +37,8 @@ pub struct Left {
     pub is_open: bool,
     /// Whether the end tag of the element may come next.
     pub may_end: bool,
+    /// The event after which nothing is left.
+    pub event: FailedEvent,
 }
 
 /// A place of a matcher: what is left there is known by it, as long as the table of levels only grows.
@@ -122,18 +126,20 @@ impl Mark {
         Ok(some_end_with(derivatives, now, after, string.blank))
     }
 
-    /// Returns what is left at the mark, boxed. Fails only when out of memory.
+    /// Returns what is left at the mark before an event, boxed. Fails only when out of memory.
     pub fn left<D: Derivatives>(
         self,
         derivatives: &mut D,
         alloc: Global,
         table: &mut LevelTable,
+        event: FailedEvent,
     ) -> Result<Box<Left>, OutOfMemory>
         requires kept { HoldsBy AreKept (D.basis derivatives.old) (D.trees derivatives.old) table.old }
         requires mark { IsMarkKept table.old self }
         ensures basis { OnOk result (D.basis derivatives.new ≡ D.basis derivatives.old) }
         ensures longer { OnOk result (Longer (D.trees derivatives.old) (D.trees derivatives.new)) }
         ensures left { IfOk result (λ l. left_of l.value ≡ marked (levels_in table.old) self) }
+        ensures event { IfOk result (λ l. l.value.event ≡ event) }
         ensures ends { IfOk result (λ l. (m : LevelMatcher) → IsMarkOf (reading_by (D.basis derivatives.old)) (D.trees derivatives.old) table.old self m
             → (l.value.may_end ≡ true) ↔ EndMayCome (reading_by (D.basis derivatives.old)) m) }
     {
@@ -149,6 +155,7 @@ impl Mark {
             has_text: has_text(self.string),
             is_open: self.is_open,
             may_end,
+            event,
         };
         let boxed = Box::new(alloc, left)?;
         Ok(boxed)

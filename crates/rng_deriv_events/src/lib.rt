@@ -12,6 +12,7 @@ mod closing;
 mod derivatives;
 mod ends;
 mod event_matcher;
+mod failed_event;
 mod held;
 mod innermost;
 mod input;
@@ -31,6 +32,7 @@ mod steps;
 
 pub use derivatives::{Derivatives, StartWay};
 pub use event_matcher::EventMatcher;
+pub use failed_event::FailedEvent;
 pub use innermost::Innermost;
 pub use left::Left;
 pub use lists::Ways;

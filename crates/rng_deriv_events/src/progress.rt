@@ -11,6 +11,7 @@ ghost use Rattle.rng_deriv_events.specs.views.OpenPositions.{IsPositionKept, ope
 ghost use Rattle.rng_deriv_events.specs.views.Positions.{AddsProgress, AddsStep, HasCome, IsFailed, IsKnown, IsLost, IsProgressInside, progress_at};
 
 use crate::derivatives::Derivatives;
+use crate::failed_event::failed_event;
 use crate::input::Input;
 use crate::left::{Left, Mark};
 use crate::level_renewal::renew;
@@ -24,7 +25,8 @@ pub enum Progress {
     /// The document may be valid. The line is that of the last event, or 0. The position is boxed, so that moving what is
     /// known costs little.
     Going { position: Box<Position>, line: u64 },
-    /// No continuation after the event of this line is valid. What was left before it is kept, boxed for the same reason.
+    /// No continuation after the event of this line is valid. What was left before it is kept, with the event, boxed for the same
+    /// reason.
     Failed { line: u64, left: Box<Left> },
     /// Nothing is known, since a call ran out of memory.
     Lost,
@@ -93,7 +95,8 @@ fn go_on<D: Derivatives>(
     let mark = Mark::of(position);
     step_by(derivatives, alloc, position, input)?;
     if position.state.table.level(position.state.now).dead {
-        let left = mark.left(derivatives, alloc, &mut position.state.table)?;
+        let event = failed_event(alloc, input)?;
+        let left = mark.left(derivatives, alloc, &mut position.state.table, event)?;
         return Ok(Some(left));
     }
     renew(derivatives, alloc, position)?;

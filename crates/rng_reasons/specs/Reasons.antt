@@ -50,6 +50,7 @@ module _ (g : Reading) (trees : List (Simple ℕ)) (q : Name) (xs : List Attribu
   IsStartReason left (Some (reasons.Tag f)) = ((left.has_text ≡ false) ⊎ IsTextRight left.in_place) × IsTagFaultOf g trees left.behind q xs (Some f)
   IsStartReason left (Some reasons.TextValue) = ⊥
   IsStartReason left (Some reasons.Incomplete) = ⊥
+  IsStartReason left (Some reasons.NothingMatches) = ⊥
 
 -- this is why an end leaves nothing, where it may not come
 abbrev pub IsEndReason : Reading → Alternatives → Reason → Type 0
@@ -57,3 +58,4 @@ IsEndReason g left reasons.Text = (left.has_text ≡ true) × ¬ (MayBeText left
 IsEndReason g left reasons.TextValue = (left.has_text ≡ true) × MayBeText left.in_place × ¬ (MayBeElement g left.behind)
 IsEndReason g left reasons.Incomplete = (left.has_text ≡ false) ⊎ (MayBeText left.in_place × MayBeElement g left.behind)
 IsEndReason g left (reasons.Tag f) = ⊥
+IsEndReason g left reasons.NothingMatches = ⊥

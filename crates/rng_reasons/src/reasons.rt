@@ -31,6 +31,8 @@ pub enum Reason {
     TextValue,
     /// An end comes too early.
     Incomplete,
+    /// None of these: the event leaves patterns, but no continuation of the document matches them.
+    NothingMatches,
 }
 
 /// The alternatives for what remains of the innermost open element.

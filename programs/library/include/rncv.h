@@ -94,7 +94,7 @@ typedef struct rncv_attribute {
     size_t value_length;
 } rncv_attribute;
 
-/* Why a start or an end leaves nothing (rncv_events_start_reason, rncv_events_end_reason). */
+/* Why a start or an end leaves nothing (rncv_events_start_reason, rncv_events_end_reason, rncv_fault_reason). */
 typedef struct rncv_reason {
     int32_t kind;       /* one of the kinds of a reason */
     uint64_t attribute; /* RNCV_REASON_ATTRIBUTE, RNCV_REASON_VALUE: the index of the attribute, from 0; otherwise 0 */
@@ -109,7 +109,8 @@ enum {
     RNCV_REASON_MISSING = 4,    /* all attributes are taken, and others are missing */
     RNCV_REASON_TEXT = 5,       /* the text directly before may not be there: none may, or the start would leave something without it */
     RNCV_REASON_TEXT_VALUE = 6, /* the text directly before an end is none of those that may be there, and no element may come behind it */
-    RNCV_REASON_INCOMPLETE = 7  /* the end comes too early */
+    RNCV_REASON_INCOMPLETE = 7, /* the end comes too early */
+    RNCV_REASON_NOTHING = 8     /* rncv_fault_reason: none of these is found, and yet no continuation is valid: nothing matches what is left */
 };
 
 /* The kinds of a verdict. */
@@ -289,6 +290,14 @@ int32_t rncv_events_start_reason(rncv_schema *schema, const uint8_t *uri, size_t
  * RNCV_MEMORY: out of memory, or a call for the document was; later calls for it may return the same. RNCV_MISUSE: no document of events is in progress.
  * Unless the status is RNCV_DONE, `reason` is unchanged. Only one thread at a time may use the handle. */
 int32_t rncv_events_end_reason(rncv_schema *schema, rncv_reason *reason);
+
+/* Writes to `reason` why no continuation is valid of the document that is in progress, in PYX or as events, or RNCV_REASON_NONE exactly if
+ * rncv_document_invalid_since or rncv_events_invalid_since reports nothing. It is the reason of the start or end there; the caller need not keep its tag. The
+ * document goes on as before.
+ *
+ * RNCV_MEMORY: out of memory, or a call for the document was; each later call for it returns the same. RNCV_MISUSE: no document is in progress. Unless the
+ * status is RNCV_DONE, `reason` is unchanged. Only one thread at a time may use the handle. */
+int32_t rncv_fault_reason(rncv_schema *schema, rncv_reason *reason);
 
 /* Ends the document that came as events and writes the verdict on it to `verdict`: RNCV_BROKEN, with 0 and 0, if the calls are no document; RNCV_INVALID
  * with the place of a start or end, after which no continuation is valid; or RNCV_VALID. Then the handle holds the schema, for the next document. The

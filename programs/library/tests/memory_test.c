@@ -287,6 +287,37 @@ static int options_once(void) {
     return status == RNCV_DONE;
 }
 
+/* Tells a document that is invalid, in PYX and as events, and asks why: returns 1 if it is told, 0 if a call ran out of memory. */
+static int fault_reason_once(void) {
+    rncv_attribute given = {(const uint8_t *)"", 0, (const uint8_t *)"b", 1, (const uint8_t *)"2", 1};
+    rncv_schema schema = RNCV_NOTHING;
+    rncv_reason reason = {99, 99};
+    uint64_t since = 99;
+    rncv_verdict verdict = {7, 7, 7};
+    int32_t status = compile("element a { attribute b { \"1\" } }", &schema);
+    for (int turn = 0; turn < 2 && status == RNCV_DONE; turn++) {
+        reason = (rncv_reason){99, 99};
+        status = turn == 0 ? rncv_document_begin(&schema) : rncv_events_begin(&schema);
+        if (status == RNCV_DONE) {
+            status = turn == 0 ? feed(&schema, "(a\nAb 2\n)a\n") : start(&schema, 1, "a", &given, 1);
+        }
+        if (status == RNCV_DONE) {
+            status = turn == 0 ? rncv_document_invalid_since(&schema, &since) : rncv_events_invalid_since(&schema, &since);
+            CHECK(status == RNCV_DONE && since == 1);
+            status = rncv_fault_reason(&schema, &reason);
+            CHECK(status == RNCV_MEMORY ? reason.kind == 99 && reason.attribute == 99 : status == RNCV_DONE);
+            CHECK(status == RNCV_MEMORY || (reason.kind == RNCV_REASON_VALUE && reason.attribute == 0));
+            CHECK(status == RNCV_DONE || rncv_fault_reason(&schema, &reason) == RNCV_MEMORY);
+        }
+        if (status == RNCV_DONE && turn == 0) {
+            status = rncv_document_end(&schema, &verdict);
+            CHECK(status != RNCV_DONE || (verdict.kind == RNCV_INVALID && verdict.line == 1));
+        }
+    }
+    rncv_schema_free(&schema);
+    return status == RNCV_DONE;
+}
+
 /* Asks for the place of a datatype: returns 1 if it is written, 0 if the call ran out of memory. */
 static int datatype_place_once(void) {
     const char *text = "datatypes d = \"u\" element a { xsd:string { maxLength = \"1\" } | xsd:byte \"7\" | attribute b { xsd:QName } | list { d:e } }";
@@ -408,6 +439,7 @@ int main(void) {
     each_growth_of(expected_tag_once);
     each_growth_of(reasons_once);
     each_growth_of(options_once);
+    each_growth_of(fault_reason_once);
     each_growth_of(datatype_place_once);
     each_growth_of(no_datatype_place_once);
     printf("growths: %ld\n", count);

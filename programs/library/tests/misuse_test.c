@@ -15,6 +15,12 @@ static void no_reasons(rncv_schema *schema) {
     CHECK(rncv_expected_in_place(schema, buffer, sizeof buffer, &length) == RNCV_MISUSE && length == 99 && buffer[0] == '.');
 }
 
+/* Why no continuation is valid is told of both kinds of documents. */
+static void no_fault_reason(rncv_schema *schema) {
+    rncv_reason reason = {99, 99};
+    CHECK(rncv_fault_reason(schema, &reason) == RNCV_MISUSE && reason.kind == 99 && reason.attribute == 99);
+}
+
 /* Each call that needs a schema with no document, or any schema, on a handle that holds nothing. */
 static void on_nothing(rncv_schema *schema) {
     rncv_schema other = RNCV_NOTHING;
@@ -34,6 +40,7 @@ static void on_nothing(rncv_schema *schema) {
     CHECK(rncv_expected(schema, buffer, sizeof buffer, &length) == RNCV_MISUSE && length == 99);
     CHECK(rncv_expected_tag(schema, NULL, 0, (const uint8_t *)"a", 1, buffer, sizeof buffer, &length) == RNCV_MISUSE && length == 99);
     no_reasons(schema);
+    no_fault_reason(schema);
     CHECK(memcmp(buffer, "....", 4) == 0);
     CHECK(schema->hidden == NULL);
 }
@@ -49,6 +56,7 @@ static void on_a_schema(void) {
     CHECK(rncv_expected(&schema, NULL, 0, &length) == RNCV_MISUSE && length == 99);
     CHECK(rncv_expected_tag(&schema, NULL, 0, (const uint8_t *)"a", 1, NULL, 0, &length) == RNCV_MISUSE && length == 99);
     no_reasons(&schema);
+    no_fault_reason(&schema);
     CHECK(rncv_document_invalid_since(&schema, &line) == RNCV_MISUSE && line == 99);
     CHECK(rncv_document_end(&schema, &verdict) == RNCV_MISUSE && verdict.kind == 7);
     /* it still works */

@@ -230,6 +230,48 @@ static void ends(rncv_schema *schema) {
     check_end(schema, "size", "1", RNCV_REASON_NONE, "element {}note\nelement {}sizes\ntext\n");
 }
 
+static int fails_by(rncv_schema *schema, int32_t kind, uint64_t attribute) {
+    rncv_reason reason = {99, 99};
+    CHECK(rncv_fault_reason(schema, &reason) == RNCV_DONE);
+    return is_reason(reason, kind, attribute);
+}
+
+/* Starts a figure with these attributes behind this text in the root: it is known why nothing can follow, also behind later calls. */
+static void check_fault(rncv_schema *schema, const char *before, const char *const *words, int32_t kind, uint64_t attribute) {
+    rncv_attribute attributes[4];
+    size_t count = make_attributes(attributes, words);
+    begin(schema);
+    CHECK(fails_by(schema, RNCV_REASON_NONE, 0) && text(schema, before) == RNCV_DONE && fails_by(schema, RNCV_REASON_NONE, 0));
+    CHECK(rncv_events_start(schema, 2, NULL, 0, (const uint8_t *)"figure", 6, count == 0 ? NULL : attributes, count) == RNCV_DONE);
+    CHECK(is_invalid_since(schema, 2) && fails_by(schema, kind, attribute));
+    CHECK(rncv_events_end(schema, 3) == RNCV_DONE && start(schema, 2, "other") == RNCV_DONE && fails_by(schema, kind, attribute));
+}
+
+static void faults(rncv_schema *schema) {
+    check_fault(schema, "", NULL, RNCV_REASON_MISSING, 0);
+    check_fault(schema, " ", (const char *[]){"src", "a", "id", "x", NULL}, RNCV_REASON_VALUE, 1);
+    check_fault(schema, "", (const char *[]){"id", "1", "src", "a", "of", "", NULL}, RNCV_REASON_ATTRIBUTE, 2);
+    check_fault(schema, "some text", (const char *[]){"id", "1", "src", "a", NULL}, RNCV_REASON_TEXT, 0);
+    check_fault(schema, "some text", NULL, RNCV_REASON_ELEMENT, 0);
+    check_end(schema, "size", "x", RNCV_REASON_TEXT_VALUE, "text\ndatatype http://www.w3.org/2001/XMLSchema-datatypes integer\n");
+    CHECK(fails_by(schema, RNCV_REASON_TEXT_VALUE, 0) && rncv_events_end(schema, 4) == RNCV_DONE && fails_by(schema, RNCV_REASON_TEXT_VALUE, 0));
+    check_end(schema, "sizes", "", RNCV_REASON_INCOMPLETE, "element {}size\n");
+    CHECK(fails_by(schema, RNCV_REASON_INCOMPLETE, 0));
+}
+
+/* The same in PYX, where an event is known once the next line begins. */
+static void faults_in_pyx(rncv_schema *schema) {
+    rncv_verdict verdict = {7, 7, 7};
+    CHECK(rncv_document_begin(schema) == RNCV_DONE && fails_by(schema, RNCV_REASON_NONE, 0));
+    CHECK(feed(schema, "(book\n(figure\nAid x\n") == RNCV_DONE && fails_by(schema, RNCV_REASON_NONE, 0));
+    for (int turn = 0; turn < 2; turn++) {
+        CHECK(feed(schema, ")figure\n") == RNCV_DONE && fails_by(schema, RNCV_REASON_VALUE, 0));
+        CHECK(feed(schema, "(figure\n") == RNCV_DONE);
+    }
+    CHECK(feed(schema, ")figure\n)book\n") == RNCV_DONE && fails_by(schema, RNCV_REASON_VALUE, 0));
+    CHECK(rncv_document_end(schema, &verdict) == RNCV_DONE && verdict.kind == RNCV_INVALID && verdict.line == 2);
+}
+
 /* A text is held where the schema tests it, up to the next start or end. */
 static void holds(rncv_schema *schema) {
     CHECK(rncv_events_begin(schema) == RNCV_DONE && held_of(schema) == 0);
@@ -285,6 +327,8 @@ int main(void) {
     tags_with_namespaces();
     texts_and_starts(&schema);
     ends(&schema);
+    faults(&schema);
+    faults_in_pyx(&schema);
     holds(&schema);
     texts_before_tags(&schema);
     names_without_a_document(&schema);

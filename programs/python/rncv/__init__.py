@@ -635,11 +635,17 @@ class Events(_InProgress):
                 library.rncv_events_invalid_since(handle, self._since)
                 if self._since.value:
                     with contextlib.suppress(MemoryError):
-                        self._reason = self._reason_by(getattr(library, f"{call}_reason"), *words)
+                        self._reason = self._reason_of_fault(words[-2] if words else ())
         if status == _MALFORMED:
             return False
         _want_done(status)
         return True
+
+    def _reason_of_fault(self, attributes: Any) -> Optional[Reason]:
+        """The reason of the event after which no continuation is valid, which has these attributes."""
+        told = Told()
+        _want_done(self._validator._library.rncv_fault_reason(self._validator._handle, told))
+        return reason_of(told, attributes)
 
     def _reason_by(self, call: Callable[..., int], *words: Any) -> Optional[Reason]:
         """The reason that this call of the library tells. The words are those of a start, with its attributes before the last one, or none."""
@@ -1092,6 +1098,7 @@ def _typed(library: ctypes.CDLL) -> ctypes.CDLL:
         ("rncv_events_tag_options", [schema, *[ctypes.c_char_p, size] * 2, ctypes.POINTER(_events.Attribute), size, *[ctypes.c_char_p, size] * 3,
                                      ctypes.POINTER(size)], status),
         ("rncv_events_end_reason", [schema, ctypes.POINTER(Told)], status),
+        ("rncv_fault_reason", [schema, ctypes.POINTER(Told)], status),
         ("rncv_events_finish", [schema, ctypes.POINTER(_Verdict)], status),
         ("rncv_expected", [schema, ctypes.c_char_p, size, ctypes.POINTER(size)], status),
         ("rncv_expected_in_place", [schema, ctypes.c_char_p, size, ctypes.POINTER(size)], status),

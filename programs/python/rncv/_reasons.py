@@ -6,7 +6,7 @@ import ctypes
 from typing import Any, NamedTuple, Optional
 
 # The words of `rncv-xml --format json`, by the numbers of the library.
-_WORDS = (None, "element-not-allowed", "attribute-not-allowed", "attribute-value", "attributes-missing", "text-not-allowed", "text-value", "incomplete")
+_WORDS = (None, "element-not-allowed", "attribute-not-allowed", "attribute-value", "attributes-missing", "text-not-allowed", "text-value", "incomplete", "nothing-matches")
 _OF_AN_ATTRIBUTE = ("attribute-not-allowed", "attribute-value")
 
 
@@ -15,8 +15,9 @@ class Reason(NamedTuple):
 
     `kind` is "element-not-allowed", "attribute-not-allowed", "attribute-value" (an attribute of the name may be there, with another value),
     "attributes-missing" (all that are there are taken), "text-not-allowed" or "text-value" (the text directly before; another one may be there), or
-    "incomplete" (an end comes too early). `attribute` is the name of the attribute that is wrong, as `local` or `{uri}local`, and otherwise None. Where
-    alternatives exclude one another, the order of the attributes decides which one is told.
+    "incomplete" (an end comes too early). "nothing-matches": none of these is found, and yet no continuation is valid. `attribute` is the name of the
+    attribute that is wrong, as `local` or `{uri}local`, and otherwise None. Where alternatives exclude one another, the order of the attributes decides
+    which one is told.
     """
 
     kind: str

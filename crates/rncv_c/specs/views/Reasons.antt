@@ -1,17 +1,19 @@
 -- Why a start or an end leaves nothing of the document of events that a handle holds, and what is held of it.
-use Rattle.std.specs.Prelude.{◌≡◌, ⊤, ℕ, List, length, Option, None, false}
+use Rattle.std.specs.Prelude.{◌≡◌, ◌↔◌, ⊤, ℕ, List, length, Option, None, false}
 use Rattle.rng_model.specs.matching.Document.{Attribute}
 use Rattle.rng_model.specs.matching.GrammarMatching.{reading_of}
 use Rattle.rng_model.specs.names.Names.{Name}
 use Rattle.rng_model.specs.documents.PyxTrees.{Event}
-use Rattle.rng_deriv.specs.views.Followers.{HasStartReason, MayReplace}
+use Rattle.rng_deriv.specs.views.Followers.{HasStartReason, IsReason, MayReplace}
 use Rattle.rng_deriv.specs.views.Matchers.{trees_in}
 use Rattle.rng_deriv_events.specs.views.Inputs.{tests_strings}
 use Rattle.rng_expected.specs.Expectations.{Next}
 use Rattle.expected_text.specs.ExpectationText.{expectation_text}
 use Rattle.rng_reasons.specs.declared.reasons.Reason.{Reason}
 use Rattle.rncv_events.specs.views.Ending.{IsWhyNoEnd}
-use Rattle.rncv_events.specs.views.Told.{HasTaken, Judging, StillKnows}
+use Rattle.rncv_events.specs.views.Told.{HasTaken, Judging, StillKnows, failed_since}
+use Rattle.rncv_validator.specs.views.Documents as documents
+use Rattle.rncv_validator.specs.views.FedDocuments as fed
 use Rattle.rncv_c_values.specs.views.Reasons.{reason_numbers}
 use Rattle.rncv_c_values.specs.declared.reasons.ReasonNumbers.{ReasonNumbers}
 
@@ -30,6 +32,24 @@ pub record TellsEndReason (told : ReasonNumbers) (old new : Judging) : Type 0 wh
       → IsWhyNoEnd (reading_of old.grammar) old.matching.progress new.matching.progress reason taken.events
   pub told_is : told ≡ reason_numbers reason
   pub knows : StillKnows old new
+
+-- the numbers tell what `EventDocument::reason` promises: none exactly if it is not known that no continuation is valid
+pub record TellsReason (told : ReasonNumbers) (old new : Judging) : Type 0 where
+  pub reason : Option Reason
+  pub is : (calls : List Event) (taken : HasTaken old calls)
+      → IsReason (reading_of old.grammar) old.matching.progress (trees_in new.matching) reason taken.events
+  pub none : (reason ≡ None) ↔ (failed_since old ≡ None)
+  pub told_is : told ≡ reason_numbers reason
+  pub knows : StillKnows old new
+
+-- the same of `Document::reason`, and what was fed stays
+pub record TellsFedReason (told : ReasonNumbers) (old new : fed.Judging) : Type 0 where
+  pub reason : Option Reason
+  pub is : (bytes : List ℕ) (fed : fed.HasBeenFed old bytes)
+      → IsReason (reading_of old.grammar) old.matching.progress (trees_in new.matching) reason fed.events
+  pub none : (reason ≡ None) ↔ (documents.failed_since old ≡ None)
+  pub told_is : told ≡ reason_numbers reason
+  pub stays : (bytes : List ℕ) → fed.HasBeenFed old bytes → fed.HasBeenFed new bytes
 
 -- so many bytes are held of the text behind the last start or end, and none where nothing tests what it says
 pub record IsHeldBy (count : ℕ) (d : Judging) : Type 0 where

@@ -20,3 +20,4 @@ reason_numbers (Some (reasons.Tag fault)) = tag_numbers fault
 reason_numbers (Some reasons.Text) = of_kind (pos 5)
 reason_numbers (Some reasons.TextValue) = of_kind (pos 6)
 reason_numbers (Some reasons.Incomplete) = of_kind (pos 7)
+reason_numbers (Some reasons.NothingMatches) = of_kind (pos 8)

@@ -1,6 +1,6 @@
 -- What may come next behind events.
-use Rattle.std.specs.Prelude.{⊤, ℕ, List, Option, not}
-use Rattle.rng_model.specs.documents.PyxTrees.{Event}
+use Rattle.std.specs.Prelude.{⊤, ◌≡◌, ℕ, List, Bool, true, false, Option, Some, None, not}
+use Rattle.rng_model.specs.documents.PyxTrees.{Event, EventKind, a_start, a_string, an_end}
 use Rattle.rng_model.specs.datatypes.Texts.{is_blank}
 use Rattle.rng_model.specs.matching.Document.{Attribute}
 use Rattle.rng_model.specs.matching.GrammarMatching.{Reading}
@@ -15,6 +15,10 @@ use Rattle.rng_expected.specs.Tags.{IsTag, Tag}
 use Rattle.rng_reasons.specs.Reasons.{Alternatives, IsEndReason, IsStartReason}
 use Rattle.rng_reasons.specs.TagOptions.{IsTagOptionsOf, Options}
 use Rattle.rng_reasons.specs.declared.reasons.Reason.{Reason}
+use Rattle.rng_reasons.specs.declared.reasons.Reason.TheVariants as reasons
+use Rattle.rng_deriv_events.specs.views.FailedEvents.{IsFailedEvent}
+use Rattle.rng_deriv_events.specs.views.NextEnds.{LeadToEnd}
+use Rattle.rng_deriv_events.specs.declared.left.Left.{Left}
 use Rattle.rng_deriv_events.specs.declared.progress.Progress.{Progress}
 use Rattle.rng_deriv_events.specs.declared.progress.Progress.TheVariants as progress
 
@@ -26,10 +30,18 @@ pub record LeaveSuch (g : Reading) (AreSo : Alternatives → Type 0) (es : List 
   pub settles : SettlesLevels g matcher.held matcher.state settled
   pub are_so : AreSo (record { behind = settled.now; in_place = matcher.state.now; has_text = not (is_blank matcher.held) })
 
--- the same for the events, or else for those before the one, at this line, after which no continuation is valid
+-- No continuation is valid after one of the events, at this line, which is the one that is kept. The events before it lead to
+-- alternatives of which this is so, and to a place where the end tag could come exactly if that is kept.
+pub record HaveFailed (g : Reading) (AreSo : Alternatives → Type 0) (left : Left) (es : List Event) (line : ℕ) : Type 0 where
+  pub fails : FailsAt g es line
+  pub is : IsFailedEvent left.event fails.kind
+  pub ends : LeadToEnd g left.may_end fails.before
+  pub leave : LeaveSuch g AreSo fails.before
+
+-- the events leave such alternatives, or else those before the one after which no continuation is valid
 abbrev pub HaveLeft : Reading → (Alternatives → Type 0) → Progress → List Event → Type 0
 HaveLeft g AreSo (progress.Going p line) es = LeaveSuch g AreSo es
-HaveLeft g AreSo (progress.Failed line left) es = (f : FailsAt g es line) × LeaveSuch g AreSo f.before
+HaveLeft g AreSo (progress.Failed line left) es = HaveFailed g AreSo left.value es line
 HaveLeft g AreSo progress.Lost es = ⊤
 
 -- this is all that may come next by what is left
@@ -57,3 +69,32 @@ HasTagOptions g p trees q xs named options es = HaveLeft g (λ left. IsTagOption
 -- this is why an end leaves nothing of it, where it may not come
 abbrev pub HasEndReason : Reading → Progress → Reason → List Event → Type 0
 HasEndReason g p reason es = HaveLeft g (λ left. IsEndReason g left reason) p es
+
+-- ---- why no continuation is valid
+
+-- This is why an event leaves nothing, given whether the end tag may come in its place. `NothingMatches` says that by the
+-- patterns the event leaves something.
+abbrev pub IsEventReason : Reading → List (Simple ℕ) → EventKind → Bool → Alternatives → Reason → Type 0
+IsEventReason g trees (a_start q xs) may_end left reasons.NothingMatches = IsStartReason g trees q xs left None
+IsEventReason g trees (a_start q xs) may_end left (reasons.Tag f) = IsStartReason g trees q xs left (Some (reasons.Tag f))
+IsEventReason g trees (a_start q xs) may_end left reasons.Text = IsStartReason g trees q xs left (Some reasons.Text)
+IsEventReason g trees (a_start q xs) may_end left reasons.TextValue = ⊥
+IsEventReason g trees (a_start q xs) may_end left reasons.Incomplete = ⊥
+IsEventReason g trees (a_string s) may_end left r = r ≡ reasons.NothingMatches
+IsEventReason g trees an_end true left r = r ≡ reasons.NothingMatches
+IsEventReason g trees an_end false left r = IsEndReason g left r
+
+-- No continuation is valid after one of the events, at this line, and this is why that event leaves nothing of what those before
+-- it leave.
+pub record FailFor (g : Reading) (trees : List (Simple ℕ)) (r : Reason) (es : List Event) (line : ℕ) : Type 0 where
+  pub fails : FailsAt g es line
+  pub may_end : Bool
+  pub ends : LeadToEnd g may_end fails.before
+  pub leave : LeaveSuch g (λ left. IsEventReason g trees fails.kind may_end left r) fails.before
+
+-- there is a reason exactly if it is known that no continuation is valid, and it is that of the event
+abbrev pub IsReason : Reading → Progress → List (Simple ℕ) → Option Reason → List Event → Type 0
+IsReason g (progress.Going p line) trees reason es = reason ≡ None
+IsReason g (progress.Failed line left) trees None es = ⊥
+IsReason g (progress.Failed line left) trees (Some r) es = FailFor g trees r es line
+IsReason g progress.Lost trees reason es = ⊤

@@ -17,8 +17,10 @@ use Rattle.rng_deriv_events.specs.views.Strings.{IsHeld, IsHeldInside}
 use Rattle.rng_deriv_events.specs.views.OpenPositions.{OpenPosition, IsPositionKept, open_position}
 use Rattle.rng_model.specs.matching.Outcomes.{KnowsName}
 use Rattle.rng_deriv_laws.specs.plain.Outcomes.{FailsAt}
+use Rattle.rng_deriv_events.specs.views.FailedEvents.{IsFailedEvent}
 use Rattle.rng_deriv_events.specs.views.LevelsLeft.{LevelLeft, left_of}
 use Rattle.rng_deriv_events.specs.views.NextEnds.{LeadToEnd}
+use Rattle.rng_deriv_events.specs.declared.failed_event.FailedEvent.{FailedEvent}
 use Rattle.rng_deriv_events.specs.declared.left.Left.{Left}
 use Rattle.rng_deriv_events.specs.declared.position.Position.{Position}
 use Rattle.rng_deriv_events.specs.declared.progress.Progress.{Progress}
@@ -78,8 +80,9 @@ pub record LeadTo (g : Reading) (trees : List (Simple ℕ)) (l : LevelLeft) (es 
 
 -- nothing is left after one of the events, at this line; the events before it lead to what was left, and to a place where
 -- the end tag could come next exactly if this is true
-pub record FailsWith (g : Reading) (trees : List (Simple ℕ)) (l : LevelLeft) (may_end : Bool) (es : List Event) (line : ℕ) : Type 0 where
+pub record FailsWith (g : Reading) (trees : List (Simple ℕ)) (l : LevelLeft) (may_end : Bool) (event : FailedEvent) (es : List Event) (line : ℕ) : Type 0 where
   pub fails : FailsAt g es line
+  pub is : IsFailedEvent event fails.kind
   pub left : LeadTo g trees l fails.before
   pub ends : LeadToEnd g may_end fails.before
 
@@ -117,7 +120,7 @@ IsLost p = p ≡ progress.Lost
 -- what is known represents the events
 abbrev pub IsKnown : Reading → List (Simple ℕ) → Progress → List Event → Type 0
 IsKnown g trees (progress.Going p line) es = HasCome g trees (open_position p.value) line es
-IsKnown g trees (progress.Failed line left) es = FailsWith g trees (left_of left.value) left.value.may_end es line
+IsKnown g trees (progress.Failed line left) es = FailsWith g trees (left_of left.value) left.value.may_end left.value.event es line
 IsKnown g trees progress.Lost es = ⊤
 
 -- what is known after one more event, in the table as it is after the event
@@ -127,5 +130,5 @@ AddsProgress g e Before new p = (es : List Event) → Before es → IsKnown g ne
 -- these events lead to what is left; if nothing is left after one of them, those before it lead to what was left
 abbrev pub LeadUp : Reading → List (Simple ℕ) → Progress → LevelLeft → List Event → Type 0
 LeadUp g trees (progress.Going p line) l es = LeadTo g trees l es
-LeadUp g trees (progress.Failed line left) l es = FailsWith g trees l left.value.may_end es line
+LeadUp g trees (progress.Failed line left) l es = FailsWith g trees l left.value.may_end left.value.event es line
 LeadUp g trees progress.Lost l es = ⊤

@@ -2,6 +2,7 @@ use Rattle.std.proofs.Common.{◌≡◌, ◌↔◌, true, false, ◌++◌, ◌�
 use Rattle.rng_model.specs.matching.GrammarMatching.{Reading}
 use Rattle.rng_deriv_laws.specs.plain.LevelEvents.{LevelMatcher}
 use Rattle.rng_deriv_events.specs.views.Basis.{reading_by}
+use Rattle.rng_deriv_events.specs.views.FailedEvents.{IsFailedEvent}
 use Rattle.rng_deriv_events.specs.views.Inputs.{event_at}
 use Rattle.rng_deriv_events.specs.views.LevelTable.{levels_in}
 use Rattle.rng_deriv_events.specs.views.LevelsLeft.{left_of, mark_of}
@@ -9,6 +10,7 @@ use Rattle.rng_deriv_events.specs.views.Marks.{IsMarkKept, IsMarkOf}
 use Rattle.rng_deriv_events.specs.views.NextEnds.{EndMayCome}
 use Rattle.rng_deriv_events.specs.views.OpenPositions.{IsPositionKept, open_position}
 use Rattle.rng_deriv_events.specs.views.Positions.{HasCome}
+use Rattle.rng_deriv_events.specs.declared.failed_event.FailedEvent.{FailedEvent}
 use Rattle.rng_deriv_events.specs.declared.position.Position.{Position}
 use Rattle.rng_deriv_events.proofs.KeptLevels.{dead_is}
 use Rattle.rng_deriv_events.proofs.KnownDocuments.{comes_on, fails}
@@ -70,9 +72,10 @@ returns-then-level-clause-progress g c =
     (ap reading_by told.keeps.basis) left.ends in
     λ kind of es come.
     let here = subst (λ (p : Position). HasCome reading old (open_position p) come.0 es) same come.1 in
-    fails reading old mid (open_position p) (open_position n) (event_at c.args.line kind) (told.step kind of) come.0 es here new (left_of l) l.may_end
+    fails reading old mid (open_position p) (open_position n) (event_at c.args.line kind) (told.step kind of) come.0 es here new (left_of l) l.may_end l.event
     (left_leads reading basis.keys old mid new p (levels_in t) mark l kept told.longer left.longer told.levels c.of-mark.ensures left.left come.0 es here)
-    (mark_tells reading basis.keys old mid p t mark l.may_end kept told.longer told.levels c.of-mark.ensures ends come.0 es here) all
+    (mark_tells reading basis.keys old mid p t mark l.may_end kept told.longer told.levels c.of-mark.ensures ends come.0 es here)
+    (subst (λ (e : FailedEvent). IsFailedEvent e kind) (sym left.event) (c.in_ok-event.ensures kind of)) all
 
 pub renew-requires : goal.renew-requires
 renew-requires g c = c.in_ok-step_by.ensures.keeps.right

@@ -13,7 +13,8 @@ returns-in-Failed-clause-progress g c =
     λ kind of.
     let event = event_at c.args.line kind in
     subst (λ p. AddsProgress reading event (IsKnown reading trees p) trees p) (sym c.in-Failed.is)
-    (λ es fails. fails_on reading trees (left_of c.in-Failed.left.value) c.in-Failed.left.value.may_end es c.in-Failed.line event fails)
+    (λ es fails. fails_on reading trees (left_of c.in-Failed.left.value) c.in-Failed.left.value.may_end c.in-Failed.left.value.event es
+    c.in-Failed.line event fails)
 
 pub returns-in-Some-clause-progress : goal.returns-in-Some-clause-progress
 returns-in-Some-clause-progress g c = λ kind of es known.

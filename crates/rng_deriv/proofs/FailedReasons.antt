@@ -1,0 +1,109 @@
+-- Why no continuation is valid, by the event that is kept.
+use Rattle.std.proofs.Common.{◌≡◌, ℕ, List, Bool, true, false, Option, Some, None, unwrap_or, refl, sym, ap, subst}
+use Rattle.rng_model.specs.simple.Table.{Table}
+use Rattle.rng_model.specs.simple.Tree.{Simple}
+use Rattle.rng_model.specs.documents.PyxTrees.{Event, EventKind, a_start}
+use Rattle.rng_model.specs.matching.Document.{Attribute}
+use Rattle.rng_model.specs.matching.GrammarMatching.{Reading, reading_of}
+use Rattle.rng_model.specs.names.Names.{Name}
+use Rattle.rng_deriv_events.specs.views.FailedEvents.{IsFailedEvent}
+use Rattle.rng_deriv_events.specs.views.Innermost.{innermost_of}
+use Rattle.rng_deriv_events.specs.views.LevelsLeft.{left_of}
+use Rattle.rng_deriv_events.specs.views.Positions.{failed_line}
+use Rattle.rng_deriv_events.specs.declared.failed_event.FailedEvent.{FailedEvent}
+use Rattle.rng_deriv_events.specs.declared.failed_event.FailedEvent.TheVariants as events
+use Rattle.rng_deriv_events.specs.declared.progress.Progress.{Progress}
+use Rattle.rng_deriv_events.specs.declared.progress.Progress.TheVariants as progress
+use Rattle.rng_reasons.specs.Reasons.{Alternatives, IsEndReason, IsStartReason}
+use Rattle.rng_reasons.specs.declared.reasons.Reason.{Reason}
+use Rattle.rng_reasons.specs.declared.reasons.Reason.TheVariants as reasons
+use Rattle.rng_deriv.specs.views.Followers.{HasEndReason, HasStartReason, HaveLeft, IsEventReason, IsReason, LeaveSuch}
+use Rattle.rng_deriv.specs.views.KeptEvents.{KeepsFailed}
+use Rattle.rng_deriv.specs.views.Matchers.{IsStateBy, Knows, matching_in}
+use Rattle.rng_deriv.specs.declared.matcher_state.MatcherState.{MatcherState}
+use Rattle.rng_deriv.proofs.FollowingEvents.{is_left}
+
+leave_weaker : (g : Reading) (Old New : Alternatives → Type 0) → ((left : Alternatives) → Old left → New left) → (es : List Event)
+    → LeaveSuch g Old es → LeaveSuch g New es
+leave_weaker g Old New weaker es leave = record {
+  matcher = leave.matcher;
+  settled = leave.settled;
+  stands = leave.stands;
+  settles = leave.settles;
+  are_so = weaker _ leave.are_so;
+}
+
+-- no reason of a start says that by the patterns it leaves something
+start_reason_is : (g : Reading) (trees : List (Simple ℕ)) (q : Name) (xs : List Attribute) (may_end : Bool) (left : Alternatives) (o : Option Reason)
+    → IsStartReason g trees q xs left o → IsEventReason g trees (a_start q xs) may_end left (unwrap_or o reasons.NothingMatches)
+start_reason_is g trees q xs may_end left None is = is
+start_reason_is g trees q xs may_end left (Some (reasons.Tag f)) is = is
+start_reason_is g trees q xs may_end left (Some reasons.Text) is = is
+start_reason_is g trees q xs may_end left (Some reasons.TextValue) is = is
+start_reason_is g trees q xs may_end left (Some reasons.Incomplete) is = is
+start_reason_is g trees q xs may_end left (Some reasons.NothingMatches) is = absurd is
+
+module _ (g : Reading) (trees : List (Simple ℕ)) (event : FailedEvent) (may_end : Bool) where
+  -- what is so of the alternatives before a kept event of this kind is why it leaves nothing
+  reason_is : (AreSo : Alternatives → Type 0) (r : Reason)
+      → ((kind : EventKind) → IsFailedEvent event kind → (left : Alternatives) → AreSo left → IsEventReason g trees kind may_end left r)
+      → (p : Progress) → KeepsFailed event may_end p → (es : List Event) → HaveLeft g AreSo p es → IsReason g p trees (Some r) es
+  reason_is AreSo r why (progress.Going p line) keeps es left = absurd keeps
+  reason_is AreSo r why (progress.Failed line left) keeps es w = record {
+    fails = w.fails;
+    may_end = left.value.may_end;
+    ends = w.ends;
+    leave = leave_weaker g AreSo (λ l. IsEventReason g trees w.fails.kind left.value.may_end l r)
+        (λ l so. subst (λ m. IsEventReason g trees w.fails.kind m l r) (sym keeps.1) (why w.fails.kind (keeps.0 w.fails.kind w.is) l so)) w.fails.before w.leave;
+  }
+  reason_is AreSo r why progress.Lost keeps es left = absurd keeps
+
+-- ---- at a start
+
+pub start_told : (g : Reading) (trees : List (Simple ℕ)) (q : Name) (xs : List Attribute) (event : FailedEvent) (may_end : Bool)
+    → ((kind : EventKind) → IsFailedEvent event kind → kind ≡ a_start q xs) → (p : Progress) → KeepsFailed event may_end p → (o : Option Reason) (es : List Event)
+    → HasStartReason g p trees q xs o es → IsReason g p trees (Some (unwrap_or o reasons.NothingMatches)) es
+start_told g trees q xs event may_end is p keeps o es told =
+    reason_is g trees event may_end (λ left. IsStartReason g trees q xs left o) (unwrap_or o reasons.NothingMatches)
+    (λ kind at left so. subst (λ k. IsEventReason g trees k may_end left (unwrap_or o reasons.NothingMatches)) (sym (is kind at))
+    (start_reason_is g trees q xs may_end left o so)) p keeps es told
+
+-- ---- at an end that may not come
+
+pub end_told : (g : Reading) (trees : List (Simple ℕ)) (p : Progress) → KeepsFailed events.End false p → (r : Reason) (es : List Event)
+    → HasEndReason g p r es → IsReason g p trees (Some r) es
+end_told g trees p keeps r es told =
+    reason_is g trees events.End false (λ left. IsEndReason g left r) r
+    (λ kind at left so. subst (λ k. IsEventReason g trees k false left r) (sym at) so) p keeps es told
+
+-- ---- where nothing is found
+
+left_there : (t : Table) (s : MatcherState) (state : IsStateBy t s) (event : FailedEvent) (may_end : Bool) (p : Progress) → s.progress ≡ p
+    → KeepsFailed event may_end p → (es : List Event) → Knows (matching_in t s) es → HaveLeft (reading_of t) (λ left. Unit {0}) p es
+left_there t s state event may_end (progress.Going p line) is keeps es known = absurd keeps
+left_there t s state event may_end (progress.Failed line left) is keeps es known =
+    subst (λ p. HaveLeft (reading_of t) (λ left. Unit {0}) p es) is (is_left t s state (left_of left.value) (ap innermost_of is) (λ left. Unit {0}) tt es known)
+left_there t s state event may_end progress.Lost is keeps es known = absurd keeps
+
+pub nothing_told : (t : Table) (s : MatcherState) (state : IsStateBy t s) (trees : List (Simple ℕ)) (event : FailedEvent) (may_end : Bool)
+    → ((kind : EventKind) → IsFailedEvent event kind → (left : Alternatives) → IsEventReason (reading_of t) trees kind may_end left reasons.NothingMatches)
+    → KeepsFailed event may_end s.progress → (es : List Event) → Knows (matching_in t s) es
+    → IsReason (reading_of t) s.progress trees (Some reasons.NothingMatches) es
+nothing_told t s state trees event may_end is keeps es known =
+    reason_is (reading_of t) trees event may_end (λ left. Unit {0}) reasons.NothingMatches (λ kind at left so. is kind at left) s.progress keeps es
+    (left_there t s state event may_end s.progress refl keeps es known)
+
+pub text_is : (g : Reading) (trees : List (Simple ℕ)) (may_end : Bool) (kind : EventKind) → IsFailedEvent events.Text kind → (left : Alternatives)
+    → IsEventReason g trees kind may_end left reasons.NothingMatches
+text_is g trees may_end kind at left = subst (λ k. IsEventReason g trees k may_end left reasons.NothingMatches) (sym at.1) refl
+
+pub end_is : (g : Reading) (trees : List (Simple ℕ)) (kind : EventKind) → IsFailedEvent events.End kind → (left : Alternatives)
+    → IsEventReason g trees kind true left reasons.NothingMatches
+end_is g trees kind at left = subst (λ k. IsEventReason g trees k true left reasons.NothingMatches) (sym at) refl
+
+-- ---- no event is known after which no continuation is valid
+
+pub no_reason : (g : Reading) (trees : List (Simple ℕ)) (p : Progress) → failed_line p ≡ None → (es : List Event) → IsReason g p trees None es
+no_reason g trees (progress.Going p line) none es = refl
+no_reason g trees (progress.Failed line left) none es = absurd (cc)
+no_reason g trees progress.Lost none es = tt

@@ -1,0 +1,85 @@
+// The event after which no continuation is valid.
+ghost use Rattle.std.specs.Prelude.{◌≡◌, IfOk, map};
+ghost use Rattle.rng_model.specs.documents.EventViews.{attribute_of};
+ghost use Rattle.rng_model.specs.documents.PyxTrees as trees;
+ghost use Rattle.rng_model.specs.names.NameViews.{name_of};
+ghost use Rattle.rng_deriv_events.specs.views.FailedEvents.{IsCopyOf, IsFailedEvent};
+ghost use Rattle.rng_deriv_events.specs.views.Inputs.{IsOf};
+
+use crate::input::Input;
+use rng_model::{Attr, EventKind, Name, OutOfMemory};
+use std::alloc::Global;
+
+/// The event after which no continuation of a document is valid.
+///
+/// RELAX NG Specification, section 2.
+#[derive(Drop)]
+pub enum FailedEvent {
+    Start { name: Name, attrs: Vec<Attr> },
+    /// A string. What it says is not kept.
+    Text,
+    End,
+}
+
+impl FailedEvent {
+    /// Returns a copy. Fails only when out of memory.
+    pub fn copied(&self, alloc: Global) -> Result<FailedEvent, OutOfMemory>
+        ensures { IfOk result (IsCopyOf self.now) }
+    {
+        match self {
+            FailedEvent::Start { name, attrs } => copied_start(alloc, name, attrs.as_slice()),
+            FailedEvent::Text => Ok(FailedEvent::Text),
+            FailedEvent::End => Ok(FailedEvent::End),
+        }
+    }
+}
+
+/// Returns a copy of a start.
+fn copied_start(alloc: Global, name: &Name, attrs: &[Attr]) -> Result<FailedEvent, OutOfMemory>
+    ensures { IfOk result (λ event. IsFailedEvent event (trees.a_start (name_of name.now) (map attribute_of attrs.now))) }
+{
+    let name = copied_name(alloc, name)?;
+    let attrs = copied_attributes(alloc, attrs)?;
+    Ok(FailedEvent::Start { name, attrs })
+}
+
+/// Returns a copy of what a matcher takes. Fails only when out of memory.
+pub fn failed_event(alloc: Global, input: Input<'_>) -> Result<FailedEvent, OutOfMemory>
+    ensures { IfOk result (λ event. (kind : trees.EventKind) → IsOf input.entry kind → IsFailedEvent event kind) }
+{
+    match input {
+        Input::Event(EventKind::Start { name, attrs }) => copied_start(alloc, name, attrs),
+        Input::Event(EventKind::Text(_)) | Input::AnyText { .. } => Ok(FailedEvent::Text),
+        Input::Event(EventKind::End) => Ok(FailedEvent::End),
+    }
+}
+
+/// Returns a copy of a name, which shares its namespace.
+fn copied_name(alloc: Global, name: &Name) -> Result<Name, OutOfMemory>
+    ensures { IfOk result (λ copy. name_of copy ≡ name_of name.now) }
+{
+    Ok(Name {
+        ns: name.ns.share()?,
+        local: String::from_str(alloc, name.local.as_str())?,
+    })
+}
+
+/// Returns a copy of an attribute.
+fn copied_attribute(alloc: Global, attr: &Attr) -> Result<Attr, OutOfMemory>
+    ensures { IfOk result (λ copy. attribute_of copy ≡ attribute_of attr.now) }
+{
+    let name = copied_name(alloc, &attr.name)?;
+    let value = String::from_str(alloc, attr.value.as_str())?;
+    Ok(Attr { name, value })
+}
+
+/// Returns copies of attributes, in their order.
+fn copied_attributes(alloc: Global, attrs: &[Attr]) -> Result<Vec<Attr>, OutOfMemory>
+    ensures { IfOk result (λ copies. map attribute_of copies.items ≡ map attribute_of attrs.now) }
+{
+    let mut copies = Vec::new(alloc);
+    'attributes: for attr in attrs {
+        copies.push(copied_attribute(alloc, attr)?)?;
+    }
+    Ok(copies)
+}
