@@ -294,16 +294,16 @@ static int fault_reason_once(void) {
     rncv_reason reason = {99, 99};
     uint64_t since = 99;
     rncv_verdict verdict = {7, 7, 7};
-    int32_t status = compile("element a { attribute b { \"1\" } }", &schema);
+    int32_t status = compile("default namespace = \"u\" element a { attribute b { \"1\" } }", &schema);
     for (int turn = 0; turn < 2 && status == RNCV_DONE; turn++) {
         reason = (rncv_reason){99, 99};
         status = turn == 0 ? rncv_document_begin(&schema) : rncv_events_begin(&schema);
         if (status == RNCV_DONE) {
-            status = turn == 0 ? feed(&schema, "(a\nAb 2\n)a\n") : start(&schema, 1, "a", &given, 1);
+            status = turn == 0 ? feed(&schema, "(a\nAxmlns u\nAb 2\n)a\n") : start(&schema, 1, "a", &given, 1);
         }
         if (status == RNCV_DONE) {
             status = turn == 0 ? rncv_document_invalid_since(&schema, &since) : rncv_events_invalid_since(&schema, &since);
-            CHECK(status == RNCV_DONE && since == 1);
+            CHECK(status == RNCV_DONE && since == (turn == 0 ? 4 : 1));
             status = rncv_fault_reason(&schema, &reason);
             CHECK(status == RNCV_MEMORY ? reason.kind == 99 && reason.attribute == 99 : status == RNCV_DONE);
             CHECK(status == RNCV_MEMORY || (reason.kind == RNCV_REASON_VALUE && reason.attribute == 0));
@@ -311,7 +311,7 @@ static int fault_reason_once(void) {
         }
         if (status == RNCV_DONE && turn == 0) {
             status = rncv_document_end(&schema, &verdict);
-            CHECK(status != RNCV_DONE || (verdict.kind == RNCV_INVALID && verdict.line == 1));
+            CHECK(status != RNCV_DONE || (verdict.kind == RNCV_INVALID && verdict.line == 4));
         }
     }
     rncv_schema_free(&schema);

@@ -269,7 +269,7 @@ static void faults_in_pyx(rncv_schema *schema) {
         CHECK(feed(schema, "(figure\n") == RNCV_DONE);
     }
     CHECK(feed(schema, ")figure\n)book\n") == RNCV_DONE && fails_by(schema, RNCV_REASON_VALUE, 0));
-    CHECK(rncv_document_end(schema, &verdict) == RNCV_DONE && verdict.kind == RNCV_INVALID && verdict.line == 2);
+    CHECK(rncv_document_end(schema, &verdict) == RNCV_DONE && verdict.kind == RNCV_INVALID && verdict.line == 4);
 }
 
 /* A text is held where the schema tests it, up to the next start or end. */
