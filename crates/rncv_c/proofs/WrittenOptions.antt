@@ -1,5 +1,5 @@
 -- A text about what two documents hold is written, or does not fit, and the statuses of a call that writes it.
-use Rattle.std.proofs.Common.{◌≡◌, ◌≢◌, ◌<◌, ◌++◌, ℕ, List, Option, None, Some, IfSome, absurd, drop, length, refl}
+use Rattle.std.proofs.Common.{◌≡◌, ◌≢◌, ◌<◌, ◌++◌, ℕ, List, Option, None, Some, IfSome, drop, length, refl}
 use Rattle.std.specs.Prelude.{IsSomeAnd}
 use Rattle.rncv_events.specs.views.Told.{Judging}
 use Rattle.rncv_c_values.specs.views.Texts.{IsTooLong, IsWritten}
