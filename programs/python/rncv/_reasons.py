@@ -5,7 +5,7 @@ from __future__ import annotations
 import ctypes
 from typing import Any, NamedTuple, Optional
 
-# The words of `rncv-xml --format json`, by the numbers of the library.
+# The words of `rncv-xml --format json`, and one more at the end, by the numbers of the library.
 _WORDS = (None, "element-not-allowed", "attribute-not-allowed", "attribute-value", "attributes-missing", "text-not-allowed", "text-value", "incomplete", "nothing-matches")
 _OF_AN_ATTRIBUTE = ("attribute-not-allowed", "attribute-value")
 

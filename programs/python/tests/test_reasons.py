@@ -146,7 +146,7 @@ class Reasons(unittest.TestCase):
     def test_out_of_memory(self):
         """Without memory for the reason there is none, and the verdict stays."""
         library = mock.Mock(wraps=self.validator._library)  # pylint: disable=protected-access
-        library.rncv_events_start_reason = library.rncv_events_tag_options = lambda *_: 3
+        library.rncv_fault_reason = library.rncv_events_start_reason = library.rncv_events_tag_options = lambda *_: 3
         with mock.patch.object(self.validator, "_library", library), self.validator.events() as events:
             self.assertTrue(events.start("b"))
             self.assertIsNone(events.reason)
