@@ -63,9 +63,12 @@ type_fields d = field d.library ++ (codes " " ++ field d.name)
 abbrev pub value_line : Datatype × List ℕ → List ℕ
 value_line v = codes "value " ++ (type_fields v.0 ++ (codes " " ++ (field v.1 ++ 0xA ∷ [])))
 
--- without the parameters
+-- the name of a parameter, and its value
+abbrev pub parameter_fields : List ℕ × List ℕ → List ℕ
+parameter_fields p = codes " " ++ (field p.0 ++ (codes " " ++ field p.1))
+
 abbrev pub datatype_line : Datatype → List ℕ
-datatype_line d = codes "datatype " ++ (type_fields d ++ 0xA ∷ [])
+datatype_line d = codes "datatype " ++ (type_fields d ++ (flat_map parameter_fields d.parameters ++ 0xA ∷ []))
 
 abbrev pub attribute_lines : NameClass → List ℕ
 attribute_lines = class_lines (codes "attribute ")

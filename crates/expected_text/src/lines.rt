@@ -1,10 +1,10 @@
 // The lines of what may come next.
 ghost use Rattle.std.specs.Prelude.{◌≡◌, ◌++◌, IfOk, OnOk, flat_map, map, string_bytes};
-ghost use Rattle.rng_model.specs.datatypes.DatatypeViews.{datatype_of};
+ghost use Rattle.rng_model.specs.datatypes.DatatypeViews.{datatype_of, parameter_of};
 ghost use Rattle.rng_model.specs.names.NameViews.{class_of};
 ghost use Rattle.rng_model.specs.schema.Patterns.{without_parameters};
 ghost use Rattle.rng_expected.specs.views.Next.{next_of, value_of};
-ghost use Rattle.expected_text.specs.ExpectationText.{datatype_line, element_lines, expectation_text, field, text_line, type_fields, value_line};
+ghost use Rattle.expected_text.specs.ExpectationText.{datatype_line, element_lines, expectation_text, field, parameter_fields, text_line, type_fields, value_line};
 
 use crate::class_parts::write_at;
 use crate::fields::write_field;
@@ -18,9 +18,9 @@ use std::alloc::Global;
 /// First there is `element CLASS` for each class, or for each member if it is a choice. `*` is every name, `{URI}*` every
 /// name of a namespace, `{URI}local` a name, and `CLASS except ( CLASS CLASS )` leaves out the names of other classes.
 /// Then there is `text` if any text may come, `value LIBRARY NAME TEXT` for each value, and `datatype LIBRARY NAME` for
-/// each datatype, without its parameters. In a library, which may be empty, a name, a text and a URI, `\\`, `\n`, `\r`,
-/// `\t` and `\s` are a backslash, a line feed, a carriage return, a tab and a space. A local name has no `}`, so lines are
-/// read in one way.
+/// each datatype, with ` PARAMETER VALUE` behind it for each parameter, in the order of the schema. In a library, which may
+/// be empty, a name, a text, a value and a URI, `\\`, `\n`, `\r`, `\t` and `\s` are a backslash, a line feed, a carriage
+/// return, a tab and a space. A local name has no `}`, so lines are read in one way.
 ///
 /// RELAX NG Specification, section 6.2. Fails only when out of memory. Time and memory are linear in the text.
 pub fn expected_text(alloc: Global, expected: &Expected<'_>) -> Result<String, OutOfMemory>
@@ -96,7 +96,29 @@ fn write_datatype(datatype: &Datatype, text: &mut String) -> Result<(), OutOfMem
 {
     text.push_str("datatype ")?;
     write_type(datatype.library.as_str(), datatype.name.as_str(), text)?;
+    write_parameters(datatype.parameters.as_slice(), text)?;
     Ok(text.push_str("\n")?)
+}
+
+/// Writes the parameters of a datatype.
+fn write_parameters(parameters: &[(String, String)], text: &mut String) -> Result<(), OutOfMemory>
+    ensures { OnOk result (string_bytes text.new ≡ string_bytes text.old ++ flat_map parameter_fields (map parameter_of parameters.now)) }
+{
+    'parameters: for parameter in parameters {
+        write_parameter(parameter, text)?;
+    }
+    Ok(())
+}
+
+/// Writes the name of a parameter and its value.
+fn write_parameter(parameter: &(String, String), text: &mut String) -> Result<(), OutOfMemory>
+    ensures { OnOk result (string_bytes text.new ≡ string_bytes text.old ++ parameter_fields (parameter_of parameter.now)) }
+{
+    let (name, value) = parameter;
+    text.push_str(" ")?;
+    write_field(name.as_str(), text)?;
+    text.push_str(" ")?;
+    write_field(value.as_str(), text)
 }
 
 /// Writes the library of a value or of a datatype, and its name there.

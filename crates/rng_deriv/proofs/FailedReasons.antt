@@ -9,7 +9,6 @@ use Rattle.rng_model.specs.names.Names.{Name}
 use Rattle.rng_deriv_events.specs.views.FailedEvents.{IsFailedEvent}
 use Rattle.rng_deriv_events.specs.views.Innermost.{innermost_of}
 use Rattle.rng_deriv_events.specs.views.LevelsLeft.{left_of}
-use Rattle.rng_deriv_events.specs.views.Positions.{failed_line}
 use Rattle.rng_deriv_events.specs.declared.failed_event.FailedEvent.{FailedEvent}
 use Rattle.rng_deriv_events.specs.declared.failed_event.FailedEvent.TheVariants as events
 use Rattle.rng_deriv_events.specs.declared.progress.Progress.{Progress}
@@ -100,10 +99,3 @@ text_is g trees may_end kind at left = subst (λ k. IsEventReason g trees k may_
 pub end_is : (g : Reading) (trees : List (Simple ℕ)) (kind : EventKind) → IsFailedEvent events.End kind → (left : Alternatives)
     → IsEventReason g trees kind true left reasons.NothingMatches
 end_is g trees kind at left = subst (λ k. IsEventReason g trees k true left reasons.NothingMatches) (sym at) refl
-
--- ---- no event is known after which no continuation is valid
-
-pub no_reason : (g : Reading) (trees : List (Simple ℕ)) (p : Progress) → failed_line p ≡ None → (es : List Event) → IsReason g p trees None es
-no_reason g trees (progress.Going p line) none es = refl
-no_reason g trees (progress.Failed line left) none es = absurd (cc)
-no_reason g trees progress.Lost none es = tt
