@@ -39,11 +39,12 @@ from typing import Any, BinaryIO, NamedTuple, NoReturn, Optional, Type, TypeVar,
 from . import _events, _schema_files, _xml
 from ._events import Attributes, EventVerdict, TreeVerdict
 from ._expected import Datatype, Expected, ExpectedTag, NameClass, TagOptions, Value, expected_of, tag_of
-from ._reasons import Reason, Told, reason_of
+from ._reasons import LineReason, Reason, Told, line_reason_of, reason_of
 from ._xml import XmlVerdict
 
-__all__ = ["Datatype", "Document", "EventVerdict", "Events", "Expected", "ExpectedTag", "LibraryError", "NameClass", "Place", "Reason", "SchemaError", "TagOptions",
-           "TreeVerdict", "Validator", "Value", "Verdict", "XmlVerdict", "clause_title", "compile", "datatype_place", "mentions", "version"]
+__all__ = ["Datatype", "Document", "EventVerdict", "Events", "Expected", "ExpectedTag", "LibraryError", "LineReason", "NameClass", "Place", "Reason",
+           "SchemaError", "TagOptions", "TreeVerdict", "Validator", "Value", "Verdict", "XmlVerdict", "clause_title", "compile", "datatype_place", "mentions",
+           "version"]
 __version__ = "0.9.0"
 
 Bytes = Union[bytes, bytearray, memoryview]
@@ -125,13 +126,15 @@ class Verdict:
     counts from 1. For an invalid document it is the line after which no continuation is valid. For a malformed one it is the line of the clause, or 0
     if the document has no line. For a valid one it is 0.
 
-    `expected` is what could have come before that line, if the line was known before the end of an invalid document, and otherwise None.
+    `expected` is what could have come before that line, if the line was known before the end of an invalid document, and otherwise None. `reason` is then
+    why nothing can follow it, unless memory ran out.
     """
 
     kind: str
     clause: int = 0
     line: int = 0
     expected: Optional[Expected] = dataclasses.field(default=None, compare=False, repr=False)
+    reason: Optional[LineReason] = dataclasses.field(default=None, compare=False, repr=False)
 
     @property
     def valid(self) -> bool:
@@ -484,10 +487,23 @@ class Document(_InProgress):
         document with the same lines up to it is valid."""
         return self._since_by(self._validator._library.rncv_document_invalid_since)
 
+    def reason(self) -> Optional[LineReason]:
+        """Returns why nothing can follow the line of `invalid_since`; None while no such line is known. MemoryError: out of memory."""
+        told = Told()
+        with self._validator._lock:
+            self._want_progress()
+            _want_done(self._validator._library.rncv_fault_reason(self._validator._handle, told))
+        return line_reason_of(told)
+
     def finish(self) -> Verdict:
         """Ends the document and returns the verdict. The validator can judge the next one. MemoryError: out of memory; the document has ended."""
-        reported, expected = self._reported_by(self._validator._library.rncv_document_end, self.invalid_since)
-        return Verdict(_KINDS[reported.kind], reported.clause, reported.line, expected)
+        with self._validator._lock:
+            reason = None
+            with contextlib.suppress(MemoryError):
+                reason = self.reason()
+            reported, expected = self._reported_by(self._validator._library.rncv_document_end, self.invalid_since)
+        kind = _KINDS[reported.kind]
+        return Verdict(kind, reported.clause, reported.line, expected, reason if kind == "invalid" else None)
 
     def __enter__(self) -> Document:
         with self._validator._lock:

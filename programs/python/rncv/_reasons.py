@@ -24,6 +24,17 @@ class Reason(NamedTuple):
     attribute: Optional[str] = None
 
 
+class LineReason(NamedTuple):
+    """Why a line of a document in PYX leaves nothing of what may come next.
+
+    `kind` is that of `Reason`. `attribute` is the index of the attribute that is wrong among those of its tag, from 0, without declarations of namespaces,
+    and otherwise None.
+    """
+
+    kind: str
+    attribute: Optional[int] = None
+
+
 class Told(ctypes.Structure):
     """A reason, as the library gives it."""
 
@@ -38,3 +49,11 @@ def reason_of(told: Told, attributes: Any = ()) -> Optional[Reason]:
     given = attributes[told.attribute]
     local = given.local.decode("utf-8")
     return Reason(word, f"{{{given.uri.decode('utf-8')}}}{local}" if given.uri else local)
+
+
+def line_reason_of(told: Told) -> Optional[LineReason]:
+    """The reason that the library tells of a line."""
+    word = _WORDS[told.kind]
+    if word is None:
+        return None
+    return LineReason(word, told.attribute if word in _OF_AN_ATTRIBUTE else None)

@@ -35,6 +35,26 @@ def tell(events, told):
     return events.text(told) if isinstance(told, str) else events.start(*told)
 
 
+def attributes_of(told):
+    """The attributes of an event, with their names."""
+    given = told[1] if isinstance(told, tuple) and len(told) > 1 else {}
+    return list(given.items()) if isinstance(given, dict) else given
+
+
+def lines_of(events):
+    """The lines of these events. Each start declares the prefix of its attributes before them."""
+    lines, opened = [], []
+    for told in events:
+        if isinstance(told, str):
+            lines.append(f"-{told}")
+        elif told is None:
+            lines.append(f"){opened.pop()}")
+        else:
+            opened.append(told[0])
+            lines += [f"({told[0]}", "Axmlns:p urn:p", *(f"A{name.replace('{urn:p}', 'p:')} {value}" for name, value in attributes_of(told))]
+    return "".join(f"{line}\n" for line in lines).encode()
+
+
 class Reasons(unittest.TestCase):
     """What is told of a document."""
 
@@ -75,6 +95,21 @@ class Reasons(unittest.TestCase):
         with self.validator.events() as events:
             self.assertTrue(events.start("a") and events.text("t") and events.end())
             self.assertEqual((events.finish().reason, events.reason), (None, None))
+
+    def test_lines(self):
+        for told, (kind, name) in STARTS:
+            with self.validator.begin() as document:
+                document.feed(b"(a\n")
+                self.assertIsNone(document.reason())
+                document.feed(lines_of([*told, "a tag is known by the line behind it"]))
+                names = [it for it, value in attributes_of(told[-1])]
+                self.assertEqual(document.reason(), (kind, names.index(name) if name else None), told)
+                verdict = document.finish()
+            self.assertEqual((verdict.kind, verdict.reason), ("malformed", None))
+        verdict = self.validator.validate(b"(a\n(b\nAx 1\nAxmlns:p urn:p\nAz 2\n)b\n)a\n")
+        self.assertEqual((str(verdict), verdict.reason), ("invalid line 6", ("attribute-not-allowed", 1)))
+        self.assertEqual(verdict, rncv.Verdict("invalid", 0, 6))
+        self.assertIsNone(self.validator.validate(b"(a\n)a\n").reason)
 
     def test_asked(self):
         with self.validator.events() as events:
