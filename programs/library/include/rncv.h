@@ -314,11 +314,13 @@ int32_t rncv_events_finish(rncv_schema *schema, rncv_verdict *verdict);
  *     element CLASS              an element with one of these names may start
  *     text                       a text that is not blank may come
  *     value LIBRARY NAME TEXT    it may be this text of this datatype
- *     datatype LIBRARY NAME      it may be a text of this datatype, with parameters that are not written
+ *     datatype LIBRARY NAME ..   it may be a text of this datatype. ` PARAMETER VALUE` follows for each of its parameters, in the order of the schema. What
+ *                                a `-` leaves out is not written
  *
- * One space is between two fields, and a library may be empty. CLASS is `{URI}local`, a name; `{URI}*`, every name of a namespace, where the URI may be empty;
- * `*`, every name; or one of the latter two with other classes whose names are left out, as `* except ( {URI}* {URI}local )`. Excepts nest at most twice. In a
- * URI, a library, a name and a text, `\\`, `\n`, `\r`, `\t` and `\s` stand for a backslash, LF, CR, a tab and a space. A local name has no `}`.
+ * One space is between two fields. A library and a value may be empty. CLASS is `{URI}local`, a name; `{URI}*`, every name of a namespace, where the URI may
+ * be empty; `*`, every name; or one of the latter two with other classes whose names are left out, as `* except ( {URI}* {URI}local )`. Excepts nest at most
+ * twice. In a URI, a library, a name, a text and a value, `\\`, `\n`, `\r`, `\t` and `\s` stand for a backslash, LF, CR, a tab and a space. A local name has no
+ * `}`.
  *
  * An element counts where its pattern stands, whether or not its content can be matched. After a text it is told what may come behind that text; a blank one
  * counts as nothing. In a document of events a text counts once a start or an end has come behind it.
@@ -354,7 +356,7 @@ int32_t rncv_expected_tag(rncv_schema *schema, const uint8_t *uri, size_t uri_le
  *     required {URI}local        it still needs this attribute
  *     text                       the value may be any text, or one that a datatype, a value or a list takes
  *     value LIBRARY NAME TEXT    the value may be this text of this datatype
- *     datatype LIBRARY NAME      the value may be a text of this datatype
+ *     datatype LIBRARY NAME ..   the value may be a text of this datatype, with these parameters
  *
  * It is told by what is left of the pattern behind the attributes: an attribute that came is gone, unless more of its class may come. An attribute counts where
  * its pattern is, as for rncv_expected_tag; it is required if what is left cannot be completed without it. Where alternatives exclude one another, the order of

@@ -161,7 +161,18 @@ static void expects_all(void) {
     check_expected(&schema, "element {}a\ntext\n");
     CHECK(start(&schema, 2, "a") == RNCV_DONE);
     check_expected(&schema, "text\nvalue  token x\\s\\n\\t\\\\\n"
-                            "datatype http://www.w3.org/2001/XMLSchema-datatypes string\ndatatype http://www.w3.org/2001/XMLSchema-datatypes integer\n");
+                            "datatype http://www.w3.org/2001/XMLSchema-datatypes string maxLength 1\n"
+                            "datatype http://www.w3.org/2001/XMLSchema-datatypes integer\n");
+    rncv_schema_free(&schema);
+}
+
+/* Datatypes have their parameters in the order of the schema, and not their excepts. A value may be empty. */
+static void expects_parameters(void) {
+    static const char written[] = "element r { xsd:token { pattern = \"a \\x{9}\\x{5C}s\" minLength = \"1\" pattern = \"\" } - \"x\" }";
+    rncv_schema schema = RNCV_NOTHING;
+    CHECK(compile_with(written, RNCV_DATATYPES_XML_SCHEMA, &schema) == RNCV_DONE);
+    CHECK(rncv_events_begin(&schema) == RNCV_DONE && start(&schema, 1, "r") == RNCV_DONE);
+    check_expected(&schema, "text\ndatatype http://www.w3.org/2001/XMLSchema-datatypes token pattern a\\s\\t\\\\s minLength 1 pattern \n");
     rncv_schema_free(&schema);
 }
 
@@ -349,6 +360,7 @@ int main(void) {
     expects(&schema);
     expects_tags();
     expects_all();
+    expects_parameters();
     names();
     refuses(&schema);
     copies(&schema);

@@ -166,13 +166,16 @@ static int refusal_once(void) {
     return status == RNCV_REFUSED;
 }
 
+#define WORD "xsd:NCName { minLength = \"1\" maxLength = \"9\" }"
+#define WORD_LINE "datatype http://www.w3.org/2001/XMLSchema-datatypes NCName minLength 1 maxLength 9\n"
+
 /* Asks what may come next in a document of events: returns 1 if it is written, 0 if a call ran out of memory. The document goes on in either case. */
 static int expected_once(void) {
-    static const char wanted[] = "text\nvalue  token x\\sy\ndatatype http://www.w3.org/2001/XMLSchema-datatypes NCName\n";
+    static const char wanted[] = "text\nvalue  token x\\sy\n" WORD_LINE;
     rncv_schema schema = RNCV_NOTHING;
     uint8_t buffer[128] = {'.'};
     size_t length = 99;
-    int32_t status = compile("default namespace = \"u\" element a { \"x y\" | xsd:NCName | attribute b { text } }", &schema);
+    int32_t status = compile("default namespace = \"u\" element a { \"x y\" | " WORD " | attribute b { text } }", &schema);
     if (status == RNCV_DONE) {
         status = rncv_events_begin(&schema);
     }
@@ -211,14 +214,14 @@ static int expected_tag_once(void) {
 
 /* Asks why a start and an end leave nothing, and what may come in place of a text: returns 1 if all is told, 0 if a call ran out of memory. */
 static int reasons_once(void) {
-    static const char wanted[] = "text\nvalue  token x\ndatatype http://www.w3.org/2001/XMLSchema-datatypes NCName\n";
+    static const char wanted[] = "text\nvalue  token x\n" WORD_LINE;
     rncv_attribute given[2] = {{(const uint8_t *)"u", 1, (const uint8_t *)"c", 1, (const uint8_t *)"", 0},
                                {(const uint8_t *)"", 0, (const uint8_t *)"b", 1, (const uint8_t *)"2", 1}};
     rncv_schema schema = RNCV_NOTHING;
     rncv_reason reason = {99, 99};
     uint8_t buffer[128] = {'.'};
     size_t length = 99;
-    int32_t status = compile("default namespace = \"u\" element a { attribute b { \"1\" }, attribute * - b { text }*, (\"x\" | xsd:NCName) }", &schema);
+    int32_t status = compile("default namespace = \"u\" element a { attribute b { \"1\" }, attribute * - b { text }*, (\"x\" | " WORD ") }", &schema);
     if (status == RNCV_DONE) {
         status = rncv_events_begin(&schema);
     }
@@ -259,15 +262,14 @@ static int reasons_once(void) {
 
 /* Asks what a tag may have behind an attribute: returns 1 if it is written, 0 if a call ran out of memory. */
 static int options_once(void) {
-    static const char wanted[] = "attribute * except ( {}b )\nattribute {}b\nrequired {}b\ntext\nvalue  token 1\n"
-                                 "datatype http://www.w3.org/2001/XMLSchema-datatypes NCName\n";
+    static const char wanted[] = "attribute * except ( {}b )\nattribute {}b\nrequired {}b\ntext\nvalue  token 1\n" WORD_LINE;
     static const uint8_t u[] = "u";
     static const uint8_t names[] = "abd";
     rncv_attribute given = {u, 1, (const uint8_t *)"c", 1, (const uint8_t *)"", 0};
     rncv_schema schema = RNCV_NOTHING;
     uint8_t buffer[256] = {'.'};
     size_t length = 99;
-    int32_t status = compile("default namespace = \"u\" element a { attribute b { \"1\" | xsd:NCName }, attribute * - b { text }* }", &schema);
+    int32_t status = compile("default namespace = \"u\" element a { attribute b { \"1\" | " WORD " }, attribute * - b { text }* }", &schema);
     if (status == RNCV_DONE) {
         status = rncv_events_begin(&schema);
     }
