@@ -192,7 +192,7 @@ class Completion:
         if expected is None or (content.is_list and not expected.values):
             self._add_values(content.values, content.is_list)
         else:
-            booleans = BOOLEANS if any(each == (XSD, "boolean") for each in expected.datatypes) else ()
+            booleans = BOOLEANS if any((each.library, each.name) == (XSD, "boolean") for each in expected.datatypes) else ()
             order = {value: index for index, value in enumerate(content.values)}
             listed = sorted((value.text for value in expected.values), key=lambda text: order.get(text, len(order)))
             self._add_values(dict.fromkeys([*listed, *booleans]), False)

@@ -21,10 +21,12 @@ class NameClass(NamedTuple):
 
 
 class Datatype(NamedTuple):
-    """A datatype: the URI of its library, which is empty for `string` and `token` of RELAX NG, and its name there. Parameters are left out."""
+    """A datatype: the URI of its library, which is empty for `string` and `token` of RELAX NG, its name there, and its parameters, each a name and a value, in
+    the order of the schema. That of a value has none."""
 
     library: str
     name: str
+    parameters: tuple[tuple[str, str], ...] = ()
 
 
 class Value(NamedTuple):
@@ -71,8 +73,13 @@ def expected_of(written: bytes) -> Expected:
     lines = [line.split(" ") for line in dict.fromkeys(written.decode("utf-8").split("\n")[:-1])]
     elements = tuple(_classes_of(line[:0:-1])[0] for line in lines if line[0] == "element")
     values = tuple(Value(_plain(line[3]), Datatype(*map(_plain, line[1:3]))) for line in lines if line[0] == "value")
-    datatypes = tuple(Datatype(*map(_plain, line[1:])) for line in lines if line[0] == "datatype")
+    datatypes = tuple(_datatype_of(*map(_plain, line[1:])) for line in lines if line[0] == "datatype")
     return Expected(elements, ["text"] in lines, values, datatypes)
+
+
+def _datatype_of(library: str, name: str, *fields: str) -> Datatype:
+    """A datatype with these names and values of parameters, in turn."""
+    return Datatype(library, name, tuple(zip(fields[::2], fields[1::2])))
 
 
 def _classes_of(words: list[str]) -> tuple[NameClass, ...]:

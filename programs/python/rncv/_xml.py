@@ -35,8 +35,8 @@ class XmlVerdict:
     malformed or outside was invalid before that place, if it was. `hints` are verdicts on further faults of an invalid document, if they were asked for.
 
     `reason`, `expected`, `attribute` and `datatype` are those of `rncv-xml --format json` for an invalid document: a word for what is wrong, what could have
-    been there, the attribute that is wrong or those that are missing, and the datatype that a value or a text should have had. They are None if that is not
-    known, and for `earlier`; `expected` is then empty.
+    been there, the attribute that is wrong or those that are missing, and the name of the datatype that a value or a text should have. They are None if that
+    is not known, and for `earlier`; `expected` is then empty.
     """
 
     kind: str

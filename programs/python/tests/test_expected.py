@@ -8,7 +8,8 @@ from rncv import Datatype, Expected, NameClass, Value
 from rncv._expected import expected_of
 
 XSD = "http://www.w3.org/2001/XMLSchema-datatypes"
-BOOK = {"s.rnc": b'default namespace = "urn:b" book = element book { element title { text }, element part { "a b" | xsd:NCName }* } start = book'}
+BOOK = {"s.rnc": b'default namespace = "urn:b" book = element book { element title { text }, element part { "a b" | xsd:NCName { maxLength = "9" } }* }'
+                 b' start = book'}
 TITLE, PART = NameClass("{urn:b}title"), NameClass("{urn:b}part")
 NOTHING = Expected((), False, (), ())
 
@@ -23,6 +24,11 @@ class TextTest(unittest.TestCase):
                          tuple(map(NameClass, ("a", "{urn: \\\n}b", "*", "{}*", "{u}*"))))
         self.assertEqual(expected_of(b"value  token x\\r\\t\\sy\nvalue u n \ndatatype u n\n"),
                          Expected((), False, (Value("x\r\t y", Datatype("", "token")), Value("", Datatype("u", "n"))), (Datatype("u", "n"),)))
+
+    def test_parameters(self):
+        """A value may be empty, also at the end of a line. Two datatypes with other parameters are two."""
+        self.assertEqual(expected_of(b"datatype u n p a\\s\\\\ q \ndatatype u n\ndatatype u n p a\\s\\\\ q \ndatatype u n q  p b\n").datatypes,
+                         (Datatype("u", "n", (("p", "a \\"), ("q", ""))), Datatype("u", "n"), Datatype("u", "n", (("q", ""), ("p", "b")))))
 
     def test_each_is_told_once(self):
         self.assertEqual(expected_of(b"element {}b\nelement {}a\nelement {}b\n").elements, (NameClass("b"), NameClass("a")))
@@ -51,7 +57,7 @@ class DocumentTest(unittest.TestCase):
             self.assertEqual(events.expected(), NOTHING._replace(text=True))
             events.end()
             events.start("{urn:b}part")
-            self.assertEqual(events.expected(), Expected((), True, (Value("a b", Datatype("", "token")),), (Datatype(XSD, "NCName"),)))
+            self.assertEqual(events.expected(), Expected((), True, (Value("a b", Datatype("", "token")),), (Datatype(XSD, "NCName", (("maxLength", "9"),)),)))
             events.text("a b")
             events.end()
             self.assertEqual(events.expected().elements, (PART,))
