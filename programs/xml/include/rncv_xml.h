@@ -128,8 +128,8 @@ typedef struct rncv_xml_answer {
     const char *earlier_message;
     const char *reason;    /* what is wrong with an invalid document, in the words of `rncv-xml --format json`; empty: not known */
     const char *attribute; /* the attribute that is wrong, or those that are missing, with a blank between two; empty: none is */
-    const char *datatype;  /* the one that the value or the text should have had; empty: none */
-    const char *expected;  /* what could have been there: texts, each with a zero behind it, .. */
+    const char *datatype;  /* the name of the one that the value or the text should have had; empty: none */
+    const char *expected;  /* what could have been there, datatypes with their parameters: texts, each with a zero behind it, .. */
     size_t expected_count; /* .. and how many there are */
 } rncv_xml_answer;
 

@@ -129,6 +129,26 @@ static uint32_t read_classes(struct fields *fields, int depth) {
     return first;
 }
 
+/* The next field; empty if there is none, as at the end of a line whose last field is empty. */
+static struct span next_or_empty(struct fields *fields) {
+    struct span field = next_field(fields);
+    return field.data == NULL ? (struct span){"", 0} : field;
+}
+
+/* Reads the parameters of a datatype, up to the end. Returns how many there are. */
+static uint32_t read_parameters(struct fields *fields) {
+    struct expected *expected = fields->expected;
+    uint32_t before = expected->parameter_count;
+    for (struct span name = next_field(fields); name.data != NULL; name = next_field(fields)) {
+        if (!items_grow((void **)&expected->parameters, expected->parameter_count, &expected->parameter_capacity, sizeof *expected->parameters)) {
+            expected->failed = true;
+            break;
+        }
+        expected->parameters[expected->parameter_count++] = (struct wanted_parameter){name, next_or_empty(fields)};
+    }
+    return expected->parameter_count - before;
+}
+
 /* Reads a value or a datatype. */
 static void read_text(struct fields *fields, bool is_value) {
     struct expected *expected = fields->expected;
@@ -140,8 +160,9 @@ static void read_text(struct fields *fields, bool is_value) {
     text->is_value = is_value;
     text->library = next_field(fields);
     text->name = next_field(fields);
-    text->text = is_value ? next_field(fields) : (struct span){"", 0};
-    text->text = text->text.data == NULL ? (struct span){"", 0} : text->text;
+    text->text = is_value ? next_or_empty(fields) : (struct span){"", 0};
+    text->first_parameter = expected->parameter_count;
+    text->parameter_count = is_value ? 0 : read_parameters(fields);
 }
 
 /* A list of classes, and its last one. */
@@ -214,6 +235,7 @@ void expected_close(struct expected *expected) {
     bytes_free(&expected->written);
     free(expected->classes);
     free(expected->texts);
+    free(expected->parameters);
 }
 
 /* Whether one of the classes from this one on has the name. */

@@ -21,20 +21,30 @@ struct wanted_class {
     uint32_t next;     /* the next one beside it */
 };
 
+/* A parameter of a datatype. */
+struct wanted_parameter {
+    struct span name;
+    struct span value;
+};
+
 /* A value, or a datatype. */
 struct wanted_text {
     bool is_value;
     struct span library;
     struct span name;
-    struct span text; /* of a value */
+    struct span text;         /* of a value */
+    uint32_t first_parameter; /* of a datatype: the index of the first one, .. */
+    uint32_t parameter_count; /* .. and how many there are, in the order of the schema */
 };
 
 struct expected {
     struct bytes written; /* the names and texts are parts of it */
     struct wanted_class *classes;
     struct wanted_text *texts; /* each is there once */
+    struct wanted_parameter *parameters;
     uint32_t class_count, class_capacity;
     uint32_t text_count, text_capacity;
+    uint32_t parameter_count, parameter_capacity;
     uint32_t first; /* of the elements that may start, or of the attributes of a tag, each of which is there once */
     uint32_t required; /* the first of those that the tag must have: names */
     bool has_text;  /* a text that is not blank may come */

@@ -58,7 +58,7 @@ struct answer {
     struct bytes expected;  /* what could have been there instead, each as it is shown, with a zero behind it */
     size_t expected_count;
     struct bytes attribute; /* the attribute that is wrong; those that are missing, with a blank between two */
-    struct bytes datatype;  /* the one that the value or the text should have had */
+    struct bytes datatype;  /* the name of the one that the value or the text should have had */
     struct bytes message; /* what is said about the document, without the place; empty if it is valid */
     struct note *notes;
     size_t note_count;

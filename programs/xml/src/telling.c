@@ -73,6 +73,7 @@ static void add_quoted(struct bytes *to, struct span text) {
     bytes_add_byte(to, '"');
 }
 
+/* Adds the name of a datatype. */
 static void add_datatype(struct bytes *to, const struct wanted_text *type) {
     if (span_is(type->library, XSD)) {
         bytes_add_text(to, "xsd:");
@@ -82,6 +83,30 @@ static void add_datatype(struct bytes *to, const struct wanted_text *type) {
         bytes_add_byte(to, '}');
     }
     bytes_add(to, type->name.data, type->name.length);
+}
+
+/* Adds a value as the compact syntax has it, in quotes that are not inside. If both are, those of the one kind are as `\"`. */
+static void add_in_quotes(struct bytes *to, struct span value) {
+    bool is_double = memchr(value.data, '"', value.length) == NULL || memchr(value.data, '\'', value.length) != NULL;
+    if (is_double) {
+        add_quoted(to, value);
+        return;
+    }
+    bytes_add_byte(to, '\'');
+    bytes_add(to, value.data, value.length);
+    bytes_add_byte(to, '\'');
+}
+
+/* Adds the parameters of a datatype, if it has some, as the compact syntax has them. */
+static void add_parameters(struct bytes *to, const struct expected *expected, const struct wanted_text *type) {
+    for (uint32_t at = 0; at < type->parameter_count; at++) {
+        const struct wanted_parameter *parameter = &expected->parameters[type->first_parameter + at];
+        bytes_add_text(to, at == 0 ? " { " : " ");
+        bytes_add(to, parameter->name.data, parameter->name.length);
+        bytes_add_text(to, " = ");
+        add_in_quotes(to, parameter->value);
+    }
+    bytes_add_text(to, type->parameter_count > 0 ? " }" : "");
 }
 
 /* Adds a name of an element in angle brackets, or with its namespace. */
@@ -152,6 +177,7 @@ static void add_texts(struct words *words, const struct expected *expected) {
             add_quoted(&words->answer->expected, text->text);
         } else {
             add_datatype(&words->answer->expected, text);
+            add_parameters(&words->answer->expected, expected, text);
         }
         end_item(words->answer);
     }
@@ -314,42 +340,70 @@ static bool is_of_type(const struct words *words, const struct wanted_text *type
     return is_allowed;
 }
 
+/* Whether one of the datatypes, which have one name and some parameters, has the text, if excepts do not count. False too if that is not known. */
+static bool is_excepted(const struct words *words, const struct expected *expected, struct span text) {
+    struct bytes name = NO_BYTES;
+    struct bytes question = NO_BYTES;
+    bytes_add(&name, expected->texts[0].name.data, expected->texts[0].name.length);
+    const char *type = bytes_text(&name);
+    for (uint32_t at = 0; at < expected->text_count; at++) {
+        const struct wanted_parameter *parameter = expected->parameters + expected->texts[at].first_parameter;
+        asked_begin(&question, type);
+        for (uint32_t left = expected->texts[at].parameter_count; left > 0; left--, parameter++) {
+            asked_add_param(&question, parameter->name, parameter->value);
+        }
+    }
+    question.failed |= name.failed;
+    bytes_free(&name);
+    return asked_takes(&question, text, words->judge->shared->datatypes);
+}
+
 /* Whether the values of a datatype depend on the prefixes around them: the library is not asked for these. */
 static bool has_context(const struct wanted_text *type) {
     return span_is(type->library, XSD) && (span_is(type->name, "QName") || span_is(type->name, "NOTATION"));
 }
 
+/* The datatype that each text has to be of, whatever its parameters. NULL: there is a value, or another datatype, or the prefixes around count. */
+static const struct wanted_text *only_type(const struct expected *expected) {
+    const struct wanted_text *first = expected->texts;
+    for (uint32_t at = 0; at < expected->text_count; at++) {
+        const struct wanted_text *text = &expected->texts[at];
+        if (text->is_value || has_context(text) || !span_equal(text->library, first->library) || !span_equal(text->name, first->name)) {
+            return NULL;
+        }
+    }
+    return expected->text_count == 0 ? NULL : first;
+}
+
 /* Adds what a text may be. If that is only a datatype, it is returned. */
 static const struct wanted_text *add_wanted(struct words *words, const struct expected *expected) {
-    const struct wanted_text *only = expected->text_count == 1 ? &expected->texts[0] : NULL;
+    const struct wanted_text *only = only_type(expected);
     add_texts(words, expected);
     sort_items(words->answer);
-    if (only == NULL || only->is_value || has_context(only)) {
-        return NULL;
+    if (only != NULL) {
+        add_datatype(&words->answer->datatype, only);
     }
-    add_datatype(&words->answer->datatype, only);
     return only;
 }
 
 /* Says that a value is wrong, and what it may be. `is_whole`: the text is not cut. */
 static void say_wrong(struct words *words, const struct expected *expected, struct span text, bool is_whole) {
-    const struct wanted_text *first = add_wanted(words, expected);
-    if (first == NULL) {
+    const struct wanted_text *only = add_wanted(words, expected);
+    if (only == NULL) {
         say(words, " is wrong");
         say_text(words, text);
         say_expected(words, "; expected ");
         return;
     }
     struct span type = {words->answer->datatype.data, words->answer->datatype.length};
-    if (is_whole && !is_of_type(words, first, text)) {
-        say(words, " is no ");
-        say_span(words, type);
-    } else {
-        say(words, span_is(first->library, XSD) ? " is an " : " is a ");
-        say_span(words, type);
-        say(words, " that the schema does not allow");
-    }
+    bool is_of_it = !is_whole || is_of_type(words, only, text);
+    say(words, !is_of_it ? " is no " : span_is(only->library, XSD) ? " is an " : " is a ");
+    say_span(words, type);
+    say(words, is_of_it ? " that the schema does not allow" : "");
     say_text(words, text);
+    if (is_of_it && expected->parameter_count > 0 && !(is_whole && is_excepted(words, expected, text))) {
+        say_expected(words, "; expected ");
+    }
 }
 
 static void tell_text_value(struct words *words) {

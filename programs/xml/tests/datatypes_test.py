@@ -23,10 +23,34 @@ IN_XML = """<element name="order" xmlns="http://relaxng.org/ns/structure/1.0" da
 """
 BAD = (
     (GOOD.replace("+00042", "0"), '1:1: invalid: attribute number of <order> is no xsd:positiveInteger ("0")'),
-    (GOOD.replace("+00042", "123456"), '1:1: invalid: attribute number of <order> is an xsd:positiveInteger that the schema does not allow ("123456")'),
-    (GOOD.replace("a b", "a" * 21), f'1:1: invalid: attribute see of <order> is an xsd:anyURI that the schema does not allow ("{"a" * 21}")'),
+    (GOOD.replace("+00042", "123456"), '1:1: invalid: attribute number of <order> is an xsd:positiveInteger that the schema does not allow ("123456"); '
+     'expected xsd:positiveInteger { totalDigits = "5" }'),
+    (GOOD.replace("a b", "a" * 21), f'1:1: invalid: attribute see of <order> is an xsd:anyURI that the schema does not allow ("{"a" * 21}"); '
+     'expected xsd:anyURI { maxLength = "20" }'),
     (GOOD.replace(" 7 ", "256"), '1:34: invalid: attribute count of <line> is no xsd:unsignedByte ("256")'),
     (GOOD.replace("de-AT", "-"), '1:52: invalid: the text of <line> is no xsd:language ("-")'),
+)
+# What <a> may have, what it has, what is said of that, and what is told as expected.
+UP_TO_9, UP_TO_20 = 'xsd:integer { maxInclusive = "9" }', 'xsd:integer { minInclusive = "1" maxInclusive = "20" }'
+FROM_30, LONG = 'xsd:integer { minInclusive = "30" }', f'xsd:string {{ pattern = "{"a" * 2000}" }}'
+NO_QUOTE, NO_QUOTES = """xsd:string { pattern = '[^"]' }""", r'''xsd:string { pattern = "[^\"']" pattern = "" }'''
+NOT_ALLOWED = 'the text of <a> is an xsd:{} that the schema does not allow ("{}")'
+PARAMETERS = (
+    (UP_TO_20, "21", f"{NOT_ALLOWED.format('integer', 21)}; expected {UP_TO_20}", [UP_TO_20]),
+    (UP_TO_20, "two", 'the text of <a> is no xsd:integer ("two")', [UP_TO_20]),
+    (UP_TO_20, "", f"<a> ends too early: expected {UP_TO_20}", [UP_TO_20]),
+    (f'{UP_TO_20} - "7"', "21", f"{NOT_ALLOWED.format('integer', 21)}; expected {UP_TO_20}", [UP_TO_20]),
+    (f'{UP_TO_20} - "7"', "7", NOT_ALLOWED.format("integer", 7), [UP_TO_20]),
+    (f'({FROM_30} - "40") | ({UP_TO_9} - "7")', " 7 ", NOT_ALLOWED.format("integer", "7 "), [UP_TO_9, FROM_30]),
+    ('xsd:integer - "7"', "7", NOT_ALLOWED.format("integer", 7), ["xsd:integer"]),
+    (f"{FROM_30} | {UP_TO_9}", "15", f"{NOT_ALLOWED.format('integer', 15)}; expected {UP_TO_9} or {FROM_30}", [UP_TO_9, FROM_30]),
+    (f"{FROM_30} | {UP_TO_9}", "two", 'the text of <a> is no xsd:integer ("two")', [UP_TO_9, FROM_30]),
+    (f'{UP_TO_9} | xsd:date | "none"', "15", f'the text of <a> is wrong ("15"); expected "none", xsd:date or {UP_TO_9}', ['"none"', "xsd:date", UP_TO_9]),
+    (NO_QUOTE, '"', NOT_ALLOWED.format("string", r'\"') + f"; expected {NO_QUOTE}", [NO_QUOTE]),
+    ("""xsd:string { pattern = '[^"' ~ "']" pattern = "" }""", "x", f"{NOT_ALLOWED.format('string', 'x')}; expected {NO_QUOTES}", [NO_QUOTES]),
+    (r'xsd:string { pattern = "\x{9}\d" }', "x", NOT_ALLOWED.format("string", "x") + r'''; expected xsd:string { pattern = "\t\d" }''',
+     ['xsd:string { pattern = "\t\\d" }']),
+    (LONG, "x", f"{NOT_ALLOWED.format('string', 'x')}; expected {LONG[:80]}..", [LONG]),
 )
 SPELLED = "are judged by their spelling"
 # Schemas with datatypes that depend on the document, and the note.
@@ -77,10 +101,23 @@ class Sets(InFolder):
         self.assertEqual(self.run_in(RNCV_XML, "--datatypes", "profile", "s.rnc")[2], 0)
         self.assertIn("leave no value between them", self.judge("s.rnc")[0])
 
+    def test_parameters(self):
+        """Messages tell the parameters of a datatype, as a schema has them. The member `datatype` is its name."""
+        for content, text, said, expected in PARAMETERS:
+            with self.subTest(content, text=text):
+                self.write("s.rnc", f"element a {{ {content} }}")
+                self.write("a.xml", f"<a>{text}</a>")
+                told = json.loads(self.judge("--format", "json", "s.rnc", "a.xml")[0])
+                self.assertEqual((told["message"], told["expected"]), (f"invalid: {said}", expected))
+                self.assertEqual("datatype" in told, " is an " in said or " is no " in said)
+                self.assertIn(told.get("datatype", ""), ("", expected[0].split(" ")[0]))
+
     def test_pattern(self):
         """Each pattern restricts the type, in the larger set alone."""
-        self.write("s.rnc", 'element a { xsd:NCName { pattern = "[a-c]+" pattern = "..." } }')
-        for text, verdict, status in (("abc", "valid", 0), ("abd", 'invalid: the text of <a> is an xsd:NCName that the schema does not allow ("abd ")', 1), ("ab", 'invalid: the text of <a> is an xsd:NCName that the schema does not allow ("ab ")', 1)):
+        both = 'xsd:NCName { pattern = "[a-c]+" pattern = "..." }'
+        self.write("s.rnc", f"element a {{ {both} }}")
+        for text, status in (("abc", 0), ("abd", 1), ("ab", 1)):
+            verdict = f"invalid: {NOT_ALLOWED.format('NCName', text + ' ')}; expected {both}" if status else "valid"
             self.write("a.xml", f"<a> {text} </a>")
             out, found = self.judge("--all", "s.rnc", "a.xml")
             self.assertEqual((re.sub(":[0-9]+:[0-9]+:", ":", out), found), (f"a.xml: {verdict}\n", status))

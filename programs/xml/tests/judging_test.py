@@ -84,7 +84,8 @@ class Lines(InFolder):
 
     def test_attributes(self):
         hours = 'element a { attribute at { xsd:integer { minInclusive = "0" maxInclusive = "23" } }, attribute k { "on" | "off" }? }'
-        self.invalid(hours, '<a\n at="24"/>', '1:1: invalid: attribute at of <a> is an xsd:integer that the schema does not allow ("24")')
+        self.invalid(hours, '<a\n at="24"/>', '1:1: invalid: attribute at of <a> is an xsd:integer that the schema does not allow ("24"); '
+                     'expected xsd:integer { minInclusive = "0" maxInclusive = "23" }')
         self.invalid(hours, '<a at="2" k="of"/>', '1:1: invalid: attribute k of <a> is wrong ("of"); expected "off" or "on"')
         self.invalid(hours, '<a at="2" l="on"/>', "1:1: invalid: attribute l is not allowed in <a>; expected k")
         self.invalid(hours, '<a k="on"/>', "1:1: invalid: <a> lacks attribute at")
@@ -252,15 +253,16 @@ class Lines(InFolder):
 
     def test_long_parts(self):
         """Texts, names and values of any length are judged, and what is wrong with them is told at its place."""
-        cut = "w" * 40
+        cut, long = "w" * 40, 'xsd:string { minLength = "20000000" }'
         self.write("t.rnc", "element a { attribute x { xsd:token { pattern = '[v]*' } }?, element b { text }?, element c { xsd:string { minLength = '20000000' } }? }")
         for document, reported in ((f"<a x='{'v' * 10_000_000}'/>", ""), (f"<a><b>{'v' * 20_000_000}</b></a>", ""), (f"<a><c>{'v' * 20_000_000}</c></a>", ""),
                                    (f"<a>\n <b><![CDATA[{'v' * 3_000_000}]]></b><d/></a>", f"2:{3_000_021}: invalid: <d> is not allowed here; expected <c>"),
                                    (f"<a>\n <b x='{'v' * 3_000_000}'>t</b></a>", "2:2: invalid: attribute x is not allowed in <b>"),
-                                   (f"<a>\n <c><!--{'v' * 3_000_000}-->\n  short</c></a>", '3:3: invalid: the text of <c> is an xsd:string that the schema does not allow ("short")'),
+                                   (f"<a>\n <c><!--{'v' * 3_000_000}-->\n  short</c></a>",
+                                    f'3:3: invalid: the text of <c> is an xsd:string that the schema does not allow ("short"); expected {long}'),
                                    (f"<a>\n <c>\n  {'w' * 3_000_000}</c></a>",
-                                    f'3:3: invalid: the text of <c> is an xsd:string that the schema does not allow ("{cut}..")'),
-                                   (f"<a>\n <b><?p {'v' * 3_000_000}?></b>\n <c/></a>", "3:2: invalid: <c> ends too early: expected xsd:string")):
+                                    f'3:3: invalid: the text of <c> is an xsd:string that the schema does not allow ("{cut}.."); expected {long}'),
+                                   (f"<a>\n <b><?p {'v' * 3_000_000}?></b>\n <c/></a>", f"3:2: invalid: <c> ends too early: expected {long}")):
             self.write("d.xml", document)
             self.assertEqual(self.judge("t.rnc", "d.xml"), (f"d.xml:{reported}\n", 1) if reported else ("", 0))
 

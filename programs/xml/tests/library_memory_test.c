@@ -65,6 +65,7 @@ static const char *const documents[] = {
     "<!DOCTYPE a SYSTEM 'd' [<!ENTITY e 'f'> <!ATTLIST a y CDATA '1'>]><a x='1'>&e;</a>",
     "<a><b></a>",
     "<a x='1' i='p' xmlns:n='u'><b r='q'/><b r='p'/></a>",
+    "<a x='1' i='-'/>",
     "<a x='2' xmlns:n='u'><b s='1'>text</b></a>",
 };
 
