@@ -244,9 +244,9 @@ class Reason:
     """Why a document is invalid. What does not belong to the reason is None.
 
     `names` says of each name that was tried whether its element may start in the state `state`. `texts` has the values and datatypes that may come, each as
-    (kind, type, text), and `has_text` says whether any text may. `attribute` is the one at fault, `others` has those that the tag could have in its place, and
-    `missing` those that it must have. `is_never` says that the element may start but that nothing is allowed in it: its name is then not expected. `scope`
-    has the namespaces of the prefixes; `column` and `name` are what is there.
+    (kind, type, text or parameters), and `has_text` says whether any text may. `attribute` is the one at fault, `others` has those that the tag could have in
+    its place, and `missing` those that it must have. `is_never` says that the element may start but that nothing is allowed in it: its name is then not
+    expected. `scope` has the namespaces of the prefixes; `column` and `name` are what is there.
     """
 
     def __init__(self, reason, at):
@@ -264,13 +264,13 @@ class Reason:
         """Notes the texts that may come in these states."""
         leaves = [it for state in states for it in patterns.leaves(state)]
         self.has_text = any(it.kind in TEXTS for it in leaves)
-        self.texts = {("data", it.parts[0], None) if it.kind == "data" else ("value", it.parts[0] or "token", it.parts[1])
+        self.texts = {("data", *it.parts[:2]) if it.kind == "data" else ("value", it.parts[0] or "token", it.parts[1])
                       for it in leaves if it.kind in ("data", "value")}
         return self
 
     def datatype(self):
-        """The datatype that is told: the only text that may come, if that is no value."""
-        (kind, name, _), *others = sorted(self.texts, key=repr) or [("", "", "")]
+        """The datatype that is told: the only one that may come, with whatever parameters, if no value may."""
+        (kind, name), *others = {it[:2] for it in self.texts} or [("", "")]
         return name if kind == "data" and not others else None
 
 

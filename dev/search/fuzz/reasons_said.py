@@ -59,8 +59,12 @@ def names_difference(items, reason, may_start):
 
 
 def shown_text(text):
+    """A value, or a datatype with its parameters, which are numbers here."""
     kind, datatype, value = text
-    return datatype if kind == "data" else '"' + value.replace('"', '\\"') + '"'
+    if kind == "value":
+        return '"' + value.replace('"', '\\"') + '"'
+    parameters = " ".join(f'{name} = "{limit}"' for name, limit in value)
+    return f"{datatype} {{ {parameters} }}" if value else datatype
 
 
 def texts_difference(items, reason):

@@ -337,7 +337,7 @@ class ReasonsTest(unittest.TestCase):
         return found.reason, found.at, found.column, sorted(about), sorted(found.texts or ())
 
     def test_reasons(self):
-        integer, names = ("data", "xsd:integer", None), {it: ("", it) for it in "arxyz"}
+        integer, names = ("data", "xsd:integer", ()), {it: ("", it) for it in "arxyz"}
         for lines, wanted in (
                 ("(r|Az 1|-5|)r", None),
                 ("(q|)q", (reasons.ELEMENT, "element", 1, [names["r"]], [])),
@@ -369,6 +369,8 @@ class ReasonsTest(unittest.TestCase):
         self.assertTrue(items.covers(("urn:d", "x")) and not items.covers(("urn:a", "x")))
         self.assertEqual(reasons_said.attributes_of(["x", "p:x"], scope), {("", "x"), ("urn:b", "x")})
         self.assertRaises(reasons_said.Unresolved, reasons_said.expanded, "q:x", scope, True)
+        self.assertEqual(reasons_said.shown_text(("data", "xsd:token", (("minLength", "1"), ("maxLength", "2")))),
+                         'xsd:token { minLength = "1" maxLength = "2" }')
 
     def test_differences(self):
         patterns = reasons.ReasonPatterns(self.SCHEMA)
