@@ -1,13 +1,14 @@
 #include "encodings.h"
 
 #include <errno.h>
+#include <stdio.h>
 #include <string.h>
 #include <strings.h>
 
 enum {
     ROOM = 16384,
     LONGEST_CHARACTER = 64,
-    LONGEST_NAME = 64
+    OPEN_SYSTEMS = 1047 /* the number of the table of EBCDIC whose line feed is a line feed */
 };
 
 /* The two bytes of EBCDIC, which iconv reads as a next line and as a line feed. */
@@ -27,7 +28,7 @@ static size_t alone(iconv_t descriptor, char byte, char *text, size_t size) {
     return size - room;
 }
 
-/* Whether ASCII is itself in the encoding, except `\` and `~`. */
+/* Whether ASCII is itself in the encoding, except `\`, `~` and a percent sign, of which an Arabic table has its own. */
 static bool keeps_ascii(struct transcoder *transcoder) {
     char text[16];
     for (int code = 0; code < 127; code++) {
@@ -38,10 +39,10 @@ static bool keeps_ascii(struct transcoder *transcoder) {
         if (length == 1 && text[0] == (char)code) {
             continue;
         }
-        if (length == 0 || (code != '\\' && code != '~')) {
+        if (length == 0 || (code != '\\' && code != '~' && code != '%')) {
             return false;
         }
-        transcoder->has_doubts = true;
+        transcoder->has_doubts |= code != '%';
     }
     iconv(transcoder->descriptor, NULL, NULL, NULL, NULL);
     return true;
@@ -57,13 +58,29 @@ static bool is_shift_jis(const char *encoding) {
     return is_one;
 }
 
+/* Opens iconv for the table. A number may have other digits there, as `IBM037` for `IBM-37` and `IBM1140` for `CP01140`. */
+static iconv_t opened(const char *table, unsigned number) {
+    char numbered[16];
+    iconv_t descriptor = iconv_open("UTF-8", table);
+    if (descriptor == (iconv_t)-1 && number != 0) {
+        snprintf(numbered, sizeof numbered, "IBM%03u", number);
+        descriptor = iconv_open("UTF-8", numbered);
+    }
+    return descriptor;
+}
+
 bool transcoder_open_any(struct transcoder *transcoder, const char *encoding) {
+    const char *table = encoding_table(encoding);
+    unsigned number = encoding_number(table);
     *transcoder = (struct transcoder)NO_TRANSCODER;
     /* these two are not names of encodings: they depend on the machine */
-    if (strcasecmp(encoding, "char") == 0 || strcasecmp(encoding, "wchar_t") == 0) {
+    if (strcasecmp(encoding, "char") == 0 || strcasecmp(encoding, "wchar_t") == 0 || !encoding_is_common(number)) {
         return false;
     }
-    transcoder->descriptor = iconv_open("UTF-8", encoding);
+    transcoder->descriptor = opened(table, number);
+    transcoder->corrections = encoding_corrections(number);
+    transcoder->composes = encoding_is_composed(number);
+    transcoder->is_open_systems = number == OPEN_SYSTEMS;
     return transcoder->descriptor != (iconv_t)-1;
 }
 
@@ -79,25 +96,9 @@ bool transcoder_open(struct transcoder *transcoder, const char *encoding) {
     return true;
 }
 
-/* Opens the transcoder for the name with a number of five digits, as `IBM01140`, which iconv knows without the zero. */
-static bool open_numbered(struct transcoder *transcoder, const char *encoding) {
-    static const char *const prefixes[] = {"ibm0", "cp0", "ccsid0"};
-    char name[LONGEST_NAME] = "IBM";
-    for (size_t at = 0; at < sizeof prefixes / sizeof *prefixes; at++) {
-        size_t length = strlen(prefixes[at]);
-        if (strncasecmp(encoding, prefixes[at], length) == 0 && strlen(encoding) == length + 4) {
-            strcat(name, encoding + length);
-            return transcoder_open_any(transcoder, name);
-        }
-    }
-    return false;
-}
-
 bool transcoder_open_ebcdic(struct transcoder *transcoder, const char *encoding) {
-    size_t length = strlen(encoding);
-    bool is_open = transcoder_open_any(transcoder, encoding) || open_numbered(transcoder, encoding);
+    bool is_open = transcoder_open_any(transcoder, encoding);
     transcoder->is_ebcdic = true;
-    transcoder->is_open_systems = length >= 4 && strcmp(encoding + length - 4, "1047") == 0;
     return is_open;
 }
 
@@ -112,8 +113,26 @@ static void set_line_ends(const struct transcoder *transcoder, char *bytes, size
     }
 }
 
+/* The correction for a byte, or NULL. */
+static const struct correction *correction_of(const struct transcoder *transcoder, char byte) {
+    const struct correction *found = transcoder->corrections;
+    while (found != NULL && found->byte != byte) {
+        found = found[1].number == found->number ? found + 1 : NULL;
+    }
+    return found;
+}
+
+/* How many bytes from here on have no correction. */
+static size_t uncorrected(const struct transcoder *transcoder, const char *from, size_t left) {
+    size_t length = transcoder->corrections == NULL ? left : 0;
+    while (length < left && correction_of(transcoder, from[length]) == NULL) {
+        length++;
+    }
+    return length;
+}
+
 /* Calls iconv once. It takes some of the bytes, from `from` on. */
-static size_t some(struct transcoder *transcoder, char **from, size_t *left, struct bytes *text) {
+static size_t by_iconv(struct transcoder *transcoder, char **from, size_t *left, struct bytes *text) {
     if (!bytes_reserve(text, ROOM)) {
         errno = ENOMEM;
         return (size_t)-1;
@@ -123,6 +142,31 @@ static size_t some(struct transcoder *transcoder, char **from, size_t *left, str
     size_t answer = iconv(transcoder->descriptor, from, left, &to, &room);
     text->length += ROOM - room;
     return answer;
+}
+
+/* How many of the bytes iconv may have together, which it would else compose. A mark is no ASCII. */
+static size_t uncomposed(const char *from, size_t left) {
+    size_t length = 0;
+    while (length < left && (unsigned char)from[length] < 0x80) {
+        length++;
+    }
+    return length == 0 ? 1 : length;
+}
+
+/* Takes some of the bytes: a byte with a correction, or what iconv takes before the next one. Answers as iconv does. */
+static size_t some(struct transcoder *transcoder, char **from, size_t *left, struct bytes *text) {
+    size_t length = uncorrected(transcoder, *from, *left);
+    if (length == 0) {
+        bytes_add_text(text, correction_of(transcoder, **from)->character);
+        ++*from;
+        --*left;
+        return 0;
+    }
+    length = transcoder->composes ? uncomposed(*from, length) : length;
+    size_t rest = *left - length;
+    size_t answer = by_iconv(transcoder, from, &length, text);
+    *left = rest + length;
+    return answer == 0 && transcoder->composes ? by_iconv(transcoder, NULL, NULL, text) : answer;
 }
 
 /* The length of a yen sign or an overline at the start of the text, which replace `\` and `~` in some tables and not in others; 0: it is another character. */
@@ -196,7 +240,7 @@ enum decoded transcoder_add(struct transcoder *transcoder, const char *bytes, si
 
 enum decoded transcoder_end(struct transcoder *transcoder, struct bytes *text) {
     size_t begin = text->length;
-    size_t answer = some(transcoder, NULL, NULL, text);
+    size_t answer = by_iconv(transcoder, NULL, NULL, text);
     if (text->failed) {
         return DECODED_NO_MEMORY;
     }
