@@ -487,8 +487,9 @@ static void count_costs(struct reader *reader, int attribute_count, int default_
     if (reader->searched > SEARCHED && reader->searched / MOST_SEARCHED > feed_offset(&reader->feed) + reader->declarations.loaded) {
         fault_set(reader->fault, FAULT_OUTSIDE, place_of(reader->start.position), "over a limit of this program: too many declarations of namespaces are in scope");
     }
-    for (const xmlChar **at = attributes + 5 * (attribute_count - default_count); default_count > 0; default_count--, at += 5) {
-        cost += at[3] == NULL ? 0 : (uint64_t)(at[4] - at[3]);
+    for (int at = attribute_count - default_count; at < attribute_count; at++) {
+        const xmlChar **attribute = attributes + 5 * at;
+        cost += attribute[3] == NULL ? 0 : (uint64_t)(attribute[4] - attribute[3]);
     }
     count_defaults(reader, cost);
 }
