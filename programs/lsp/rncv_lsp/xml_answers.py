@@ -19,7 +19,7 @@ from rncv_lsp.settings import is_in
 from rncv_lsp.simple_form import Form
 from rncv_lsp.texts import Text
 from rncv_lsp.xml_completion import Asked, Completion, Knowledge, attribute_name
-from rncv_lsp.xml_cursor import Cursor, boundary, cursor_at, cursor_far, end_of_name
+from rncv_lsp.xml_cursor import Cursor, boundary, continues, cursor_at, cursor_far, end_of_name
 from rncv_lsp.xml_feeds import EventFeed, PyxFeed
 from rncv_lsp.xml_reading import Reading
 from rncv_lsp.xml_source import instructions, offset_of
@@ -191,7 +191,7 @@ class XmlAnswers:
         kept = self._expecting.pop(key, None)
         is_like = kept is not None and kept.schema == schema
         is_refused = is_like and kept.reading.feed.is_refused and isinstance(kept.reading.feed, PyxFeed)
-        if is_like and not is_refused and kept.inside == inside and kept.reading.continues(document.lines, offset):
+        if is_like and not is_refused and kept.inside == inside and continues(kept.reading, document.lines, offset):
             self._expecting[key] = kept
             return kept.reading
         if kept is not None:
@@ -212,7 +212,7 @@ class XmlAnswers:
     def _reading(self, document: Document, offset: int) -> Reading:
         """A reading of the document for its open elements alone. It leaves the other one where the client types."""
         reading = self._telling.get(document.uri)
-        if reading is None or not reading.continues(document.lines, offset):
+        if reading is None or not continues(reading, document.lines, offset):
             reading = self._telling[document.uri] = Reading(PyxFeed(None), None, self._stretches(document))
         return reading
 

@@ -66,6 +66,11 @@ def boundary(lines: Text, offset: int) -> int:
         length *= 4
 
 
+def continues(reading: Reading, lines: Text, offset: int) -> bool:
+    """Whether a reading can go on to the last markup before a place. One that has read behind that cannot: it may know of what is wrong there."""
+    return reading.continues(lines, boundary(lines, offset))
+
+
 def cursor_at(reading: Reading, lines: Text, offset: int) -> Cursor:
     """What is at a place. The reading goes on to the last markup before it."""
     limit = boundary(lines, offset)

@@ -15,7 +15,7 @@ from rncv_lsp.schema_files import SchemaFile, SchemaSet  # noqa: E402
 from rncv_lsp.simple_form import Form  # noqa: E402
 from rncv_lsp.texts import Text  # noqa: E402
 from rncv_lsp.xml_completion import Asked, Completion, Knowledge  # noqa: E402
-from rncv_lsp.xml_cursor import boundary, cursor_at  # noqa: E402
+from rncv_lsp.xml_cursor import boundary, continues, cursor_at  # noqa: E402
 from rncv_lsp.xml_feeds import EventFeed, PyxFeed  # noqa: E402
 from rncv_lsp.xml_reading import STRETCH_LENGTH, Reading  # noqa: E402
 
@@ -112,7 +112,7 @@ class Readings(unittest.TestCase):
             place = min(chosen.choice((at, at + 1, chosen.randrange(len(document) + 1))), len(document))
             place -= document[place - 1:place + 1] == "\r\n"
             text = Text(document)
-            if not kept.continues(text, place):
+            if not continues(kept, text, place):
                 kept.feed.close()
                 kept = Reading(PyxFeed(self.validator), None, kept.known)
                 kept.known.move_to(text)
@@ -122,6 +122,18 @@ class Readings(unittest.TestCase):
             fresh.feed.close()
         kept.feed.close()
         return count
+
+    def test_a_reading_that_is_too_far(self):
+        cases = (("<l<<!--a>", 4, "<l<!--a>", 3), ("<letter><<", 10, "<letter><!--", 9), ("<letter xmlns='urn:l'>a<", 24, "<letter xmlns='urn:l'>ab", 23))
+        for before, first, document, place in cases:
+            kept, fresh, text = Reading(PyxFeed(self.validator)), Reading(PyxFeed(self.other)), Text(document)
+            cursor_at(kept, Text(before), first)
+            if not continues(kept, text, place):
+                kept.feed.close()
+                kept = Reading(PyxFeed(self.validator))
+            self.assertEqual(self.answer(kept, text, place), self.answer(fresh, text, place), document)
+            kept.feed.close()
+            fresh.feed.close()
 
     def test_edits_that_change_what_is_behind_them(self):
         text = Text("<!DOCTYPE letter [<!ENTITY e 'words'>]>\n<letter xmlns='urn:l' to='Ada'>" + "<para>a</para>" * 9 + "<para>&e;</para>" * 20 + "</letter>")
