@@ -13,11 +13,11 @@ if [ ! -f "$library" ]; then
 fi
 RNCV_LIBRARY=$(cd "$(dirname "$library")" && pwd)/$(basename "$library")
 export RNCV_LIBRARY
-parts="rpc schemas names xml answers declared reading units speed editors"
+parts="rpc schemas names parts xml answers declared reading units speed editors"
 if [ ! -f "$(dirname "$RNCV_LIBRARY")/librncv_xml.so" ]; then
     echo "programs/lsp/test.sh: XML is not tested, no librncv_xml.so beside the library (programs/xml/library.sh builds it)"
     [ -z "${RNCV_REQUIRED:-}" ] || exit 1
-    parts="rpc schemas names declared units"
+    parts="rpc schemas names parts declared units"
 fi
 room=$(mktemp -d)
 trap 'rm -rf "$room"' EXIT

@@ -9,7 +9,8 @@ from rncv_lsp.outside import KEYWORDS
 from rncv_lsp.rnc_grammars import Node
 from rncv_lsp.rnc_hover import library_of
 from rncv_lsp.rnc_names import Asked
-from rncv_lsp.rnc_outline import CLASS, CONTENT, PARAMS, SQUARE, Reader, State
+from rncv_lsp.rnc_outline import Reader
+from rncv_lsp.rnc_states import CLASS, CONTENT, PARAMS, SQUARE
 from rncv_lsp.rnc_symbols import has_letters
 from rncv_lsp.rnc_tokens import DOC, NOTHING, OPEN, WORD, lexed
 from rncv_lsp.rnc_types import datatypes_of, parameters_of
@@ -54,7 +55,7 @@ def spot_of(asked: Asked) -> Optional[Spot]:
     last = tokens.tokens[-1] if tokens.tokens else NOTHING
     if is_in_comment or tokens.open or (last.kind in (OPEN, DOC) and last.end == len(before)):
         return None
-    reader = Reader(before, tokens.tokens, outline.parts[index - 1].facts.after if index > 0 else State())
+    reader = Reader(before, tokens.tokens, outline.states[index])
     reader.run()
     return Spot(reader, begin + len(before), typed)
 

@@ -1,30 +1,29 @@
 """The indentation of a schema. Only blanks at the beginning of lines change, none in a literal; a schema whose brackets do not match stays as it is.
 
-It is found part by part. What a part gets depends on the levels before it, and on the ends of the definitions that begin in it, and is kept with the part: after
-a keystroke only the part around it is gone through again."""
+It is found part by part. What a part gets depends on the inner levels before it, and on the ends of the definitions that begin in it. It is kept with the part:
+after a keystroke only the part around it is gone through again, and none where all lines get deeper."""
 from __future__ import annotations
 
 import re
 from typing import Dict, Iterator, List, NamedTuple, Optional, Tuple
 
 from rncv_lsp.rnc_outline import DEFINE, START
-from rncv_lsp.rnc_parts import Outline, Part
+from rncv_lsp.rnc_part import PARTNERS, Part
+from rncv_lsp.rnc_parts import Outline
 from rncv_lsp.rnc_places import Lines
-from rncv_lsp.rnc_tokens import CNAME, LITERAL, OPEN, SIGN, WORD, Token, lexed
+from rncv_lsp.rnc_tokens import CNAME, LITERAL, SIGN, WORD, Token, lexed
 from rncv_lsp.rpc import Written
 from rncv_lsp.texts import LINE_END
 
 BLANKS = re.compile("[ \t]*")
-PARTNERS = {"}": "{", ")": "(", "]": "["}
 # Declarations and mentions, by a letter for each token.
 LETTERS = {"include": "C", "inherit": "I", "namespace": "S", "default": "D", "datatypes": "T", "=": "=", "~": "~"}
 LONG = re.compile("CL(?:~L)*(?:I=[NCISDT])?|D?S[NCISDT]?=(?:L(?:~L)*|I)|T?[NCISDT]=L(?:~L)*")
 OPERATORS = ("|", "&", ",", ">>")
-HANG = "  "
+# What a level adds, until it is written, and what is behind an operator that is alone in its line.
+UNIT, HANG = "\t", "  "
 # Deeper brackets are no schema (docs/use/LANGUAGE.md), and would need very long lines.
 MOST_DEPTH = 1_000
-
-
 # How many ways to indent a part are kept.
 MOST_KEPT = 4
 
@@ -41,7 +40,6 @@ class Level(NamedTuple):
     """What is in an open bracket, or outside all of them. `outside` has the blanks of the line that closes it, `inside` those of its lines, and `item` those
     of what is there now. `end` is where what is long ends, and `hangs` says that the last line that began with an operator has nothing more."""
 
-    sign: str
     outside: str
     inside: str
     item: str
@@ -49,15 +47,10 @@ class Level(NamedTuple):
     hangs: bool = False
 
 
-Levels = Tuple[Level, ...]
-
-
 class Around(NamedTuple):
-    """What is around a part: the blanks of a level, the levels before it, where definitions in it begin and end, where the first token behind it begins,
-    whether a definition begins there, and whether the text ends there. Offsets count from the beginning of the part."""
+    """What is around a part besides levels: where definitions in it begin and end, where the first token behind it begins, whether a definition begins there,
+    and whether the text ends there. Offsets count from the beginning of the part."""
 
-    unit: str
-    levels: Levels
     definitions: Tuple[Tuple[int, int], ...]
     behind: int
     is_definition_behind: bool
@@ -65,11 +58,16 @@ class Around(NamedTuple):
 
 
 class Indented(NamedTuple):
-    """The lines of a part whose blanks change, and the levels behind it. `is_sure`: the brackets match so far, and there are not too many in one another."""
+    """How a part is indented behind some levels, of which it does not close the first, and what it leaves of these levels and adds to them. `there` has the
+    blanks that its lines have now. `is_inside`: all blanks are behind those inside the first level. `changed` has the lines that change, by these blanks and by
+    the unit."""
 
+    used: List[Level]
     lines: List[Line]
-    levels: Levels
-    is_sure: bool
+    there: List[str]
+    left: List[Level]
+    is_inside: bool
+    changed: Dict[Tuple[str, str], List[Line]]
 
 
 def letter(token: Token) -> str:
@@ -97,36 +95,40 @@ def long_ones(around: Around, tokens: List[Token]) -> Dict[int, int]:
 
 
 class Indenter:
-    """Goes through a part of a schema, line by line. Each level has one more unit of blanks."""
+    """Goes through a part of a schema whose brackets match, line by line. Each level has one more unit of blanks."""
 
-    def __init__(self, words: str, around: Around) -> None:
-        self.text, self.unit, self.behind = words, around.unit, Token(SIGN, "", around.behind, around.behind)
+    def __init__(self, words: str, around: Around, levels: List[Level], begin: int) -> None:
+        self.text, self.behind, self.before, self.begin = words, Token(SIGN, "", around.behind, around.behind), levels, begin
         self.tokens, self.at = lexed(words).tokens, 0
         self.long_ones = long_ones(around, self.tokens)
         self.is_long = {*self.long_ones, *([around.behind] if around.is_definition_behind else [])}
-        self.levels, self.is_last = list(around.levels), around.is_last
-        self.is_sure = not any(token.kind == OPEN for token in self.tokens)
+        self.levels, self.lowest = [each._replace(end=max(each.end - begin, 0)) for each in levels], len(levels)
+        self.is_last = around.is_last
 
     def run(self) -> Indented:
         """Goes through all lines."""
+        lines = self._lines()
+        own = self.before[self.lowest - 1:]
+        used = seen(own, self.begin, own[0].inside)
+        cut = len(own[0].inside) if used is not None else 0
+        left = [Level(each.outside[cut:], each.inside[cut:], each.item[cut:], each.end, each.hangs) for each in self.levels[self.lowest - 1:]]
+        return Indented(used or seen(own, self.begin, "") or [], [line._replace(blanks=line.blanks[cut:]) for line in lines],
+                        [self.text[line.start:line.first] for line in lines], left, used is not None, {})
+
+    def _lines(self) -> List[Line]:
+        """The lines that may begin with blanks, in their order."""
         starts = [0, *(found.end() for found in LINE_END.finditer(self.text))]
         if not self.is_last:
             del starts[-1]  # it is the first line of the next part
-        lines = [line for line in self._lines(starts) if self.text[line.start:line.first] != line.blanks]
-        levels = tuple(level._replace(end=max(level.end - len(self.text), 0)) for level in self.levels)
-        return Indented(lines, levels, self.is_sure)
-
-    def _lines(self, starts: List[int]) -> Iterator[Line]:
-        """The lines that may begin with blanks, in their order, as long as the brackets match."""
+        found: List[Line] = []
         for start, behind in zip(starts, [*starts[1:], len(self.text) + 1]):
             first = BLANKS.match(self.text, start).end()  # type: ignore[union-attr]
             is_inside = self.at > 0 and self.tokens[self.at - 1].end > start
             line = Line(start, first, self._blanks(first))
             if self.text[first:first + 1].strip() and not is_inside:
-                yield line
+                found.append(line)
             self._take(line, behind)
-            if not self.is_sure:
-                return
+        return found
 
     def _token(self, index: int) -> Token:
         """The token with this index; behind the last one, a token where the first one of the next part begins, or at the end of the text."""
@@ -135,10 +137,11 @@ class Indenter:
     def _blanks(self, first: int) -> str:
         """The blanks of the line that begins here. It may close a bracket first."""
         token, level = self._token(self.at), self.levels[-1]
-        if token.start == first and len(self.levels) > 1 and closes(token):
+        if token.start == first and closes(token):
+            self.lowest = min(self.lowest, len(self.levels) - 1)
             return level.outside
         hanging = HANG if level.hangs and not is_operator(token) and token.start not in self.is_long else ""
-        return level.inside + (self.unit if token.start < level.end else "") + hanging
+        return level.inside + (UNIT if token.start < level.end else "") + hanging
 
     def _take(self, line: Line, behind: int) -> None:
         """Takes the tokens of a line. What an operator at its beginning joins is behind that."""
@@ -158,27 +161,46 @@ class Indenter:
             self.levels[-1] = self.levels[-1]._replace(end=self.long_ones[token.start], hangs=False)
         if token.kind == SIGN and token.text in ("{", "(", "["):
             is_aligned, following, outside = token.text == "(" and token is item, self._token(self.at + 1), self.levels[-1].item
-            inside = outside + (" " if is_aligned else self.unit)
-            self.levels.append(Level(token.text, outside, inside, inside if is_aligned else outside))
-            self.is_sure = self.is_sure and len(self.levels) <= MOST_DEPTH
+            inside = outside + (" " if is_aligned else UNIT)
+            self.levels.append(Level(outside, inside, inside if is_aligned else outside))
             return following if is_aligned and following.start == token.end else item
         if closes(token):
-            self.is_sure = self.is_sure and self.levels[-1].sign == PARTNERS[token.text]
-            del self.levels[max(1, len(self.levels) - 1):]
+            del self.levels[-1]
+            self.lowest = min(self.lowest, len(self.levels))
         return item
 
 
-def indented(outline: Outline, unit: str) -> List[Line]:
-    """The blanks at the beginning of lines that change: where they are, and what is there instead."""
-    levels: Levels = (Level("", "", "", ""),)
+def is_nested(outline: Outline) -> bool:
+    """Whether all brackets match, and are not too deep, and all literals have an end."""
+    path: List[str] = []
+    for part in outline.parts:
+        nesting = part.scan.nesting
+        if nesting is None or len(path) + nesting.depth >= MOST_DEPTH:
+            return False
+        if any(not path or path.pop() != PARTNERS[sign] for sign in nesting.closing):
+            return False
+        path += nesting.opening
+    return not path
+
+
+def indented(outline: Outline, unit: str, start: int = 0, end: Optional[int] = None) -> List[Line]:
+    """The blanks at the beginning of lines that change: where they are, and what is there instead. Only the parts between two offsets are looked at."""
     found: List[Line] = []
-    for number, (begin, part) in enumerate(outline.placed()):
-        part_found = indented_part(part, outline.lines.text[begin:begin + part.length], around_of(outline, number, unit, levels))
-        if not part_found.is_sure:
-            return []
-        found += [Line(line.start + begin, line.first + begin, line.blanks) for line in part_found.lines]
-        levels = part_found.levels
-    return found if len(levels) == 1 else []
+    for begin, part, each, blanks in part_by_part(outline):
+        if begin + part.length >= start and (end is None or begin <= end):
+            found += [Line(first + begin, token + begin, words) for first, token, words in changed(part, each, blanks, unit)]
+    return found
+
+
+def part_by_part(outline: Outline) -> Iterator[Tuple[int, Part, Indented, str]]:
+    """How each part is indented, where it begins, and the blanks before all its lines; nothing if brackets do not match."""
+    levels = [Level("", "", "")]
+    for number, (begin, part) in enumerate(outline.placed() if is_nested(outline) else ()):
+        found, blanks = indented_part(part, around_of(outline, number), levels, begin)
+        yield begin, part, found, blanks
+        first, *inner = found.left
+        levels[-len(found.used):] = [levels[-len(found.used)]._replace(item=blanks + first.item, end=first.end + begin, hangs=first.hangs),
+                                     *(Level(blanks + each.outside, blanks + each.inside, blanks + each.item, each.end + begin, each.hangs) for each in inner)]
 
 
 def edits(found: List[Line], lines: Lines, first: int, last: Optional[int]) -> Written:
@@ -189,23 +211,48 @@ def edits(found: List[Line], lines: Lines, first: int, last: Optional[int]) -> W
         for number, length, blanks in numbered if first <= number and (last is None or number <= last)]) + "]")
 
 
-def around_of(outline: Outline, number: int, unit: str, levels: Levels) -> Around:
-    """What is around a part with this number, if these levels are before it."""
+def around_of(outline: Outline, number: int) -> Around:
+    """What is around a part with this number."""
     begin, length = outline.starts[number], outline.parts[number].length
     behind = BLANKS.match(outline.lines.text, begin + length).end() - begin  # type: ignore[union-attr]
-    definitions = tuple((opened.name_start, end) for opened, end in outline.spans_in(number) if opened.kind in (DEFINE, START))
+    definitions = tuple([(opened.name_start, end) for opened, end in outline.spans_in(number) if opened.kind in (DEFINE, START)])
     following = outline.parts[number + 1].opened if number + 1 < len(outline.parts) else []
     starts = (opened.name_start for opened in following if opened.kind in (DEFINE, START))
     is_definition_behind = next(starts, -1) == behind - length
-    return Around(unit, levels, definitions, behind, is_definition_behind, begin + length == outline.lines.length)
+    return Around(definitions, behind, is_definition_behind, begin + length == outline.lines.length)
 
 
-def indented_part(part: Part, words: str, around: Around) -> Indented:
-    """What changes in a part. It is kept with the part, for the last few things that were around it."""
-    found = part.indented.get(around)
-    if found is None:
-        found = Indenter(words, around).run()
-        while len(part.indented) >= MOST_KEPT:
-            del part.indented[next(iter(part.indented))]
-        part.indented[around] = found
-    return found
+def seen(levels: List[Level], begin: int, blanks: str) -> Optional[List[Level]]:
+    """Levels as a part sees them that begins at a place, behind these blanks; None if some do not begin with them. The first one is not closed in the part."""
+    first, *inner = levels
+    if not all(each.item.startswith(blanks) for each in levels) or not all(each.outside.startswith(blanks) for each in inner):
+        return None
+    cut = len(blanks)
+    return [Level("", first.inside[cut:], first.item[cut:], max(first.end - begin, 0), first.hangs),
+            *(Level(each.outside[cut:], each.inside[cut:], each.item[cut:], max(each.end - begin, 0), each.hangs) for each in inner)]
+
+
+def indented_part(part: Part, around: Around, levels: List[Level], begin: int) -> Tuple[Indented, str]:
+    """How a part is indented, and the blanks before all its lines. It is kept with the part, for the last few things that were around it."""
+    for found in part.indented.get(around, ()):
+        own = levels[-len(found.used):]
+        blanks = own[0].inside if found.is_inside else ""
+        if len(own) == len(found.used) and seen(own, begin, blanks) == found.used:
+            return found, blanks
+    found = Indenter(part.words, around, levels, begin).run()
+    if len(part.indented) >= MOST_KEPT:
+        part.indented.clear()
+    part.indented[around] = [found, *part.indented.get(around, ())][:MOST_KEPT]
+    return found, levels[-len(found.used)].inside if found.is_inside else ""
+
+
+def changed(part: Part, found: Indented, blanks: str, unit: str) -> List[Line]:
+    """The lines of a part that change, if all begin with these blanks. They are kept too."""
+    lines = found.changed.get((blanks, unit))
+    if lines is None:
+        wanted = {words: (blanks + words).replace(UNIT, unit) for words in {line.blanks for line in found.lines}}
+        lines = [Line(start, first, wanted[words]) for (start, first, words), there in zip(found.lines, found.there) if there != wanted[words]]
+        if len(found.changed) >= MOST_KEPT:
+            found.changed.clear()
+        found.changed[blanks, unit] = lines
+    return lines

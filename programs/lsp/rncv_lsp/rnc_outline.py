@@ -1,31 +1,33 @@
 """What the names in a part of a schema are: definitions, references, prefixes, files. The reader takes any tokens, and goes on behind what is no schema."""
 from __future__ import annotations
 
-from typing import Callable, Dict, List, NamedTuple, Optional, Tuple, Union
+import contextlib
+from typing import Callable, Dict, List, NamedTuple, Optional, Set, Tuple, Union
 
 from rncv_lsp.outside import KEYWORDS
+from rncv_lsp.rnc_states import CLASS, CONTENT, PARAMS, PATTERN, ROUND, SQUARE, Frame, State, Used, relative
 from rncv_lsp.rnc_tokens import CNAME, DOC, LITERAL, NOTHING, NSNAME, OPEN, SIGN, WORD, Lexed, Token, literal_words
 
 # What a name is. START has the text of the keyword, which no definition has as its name.
 DEFINE, START, REFERENCE, PARENT, INCLUDE, EXTERNAL = "define", "start", "reference", "parent", "include", "external"
 SPACE, SPACE_USE, LIBRARY, LIBRARY_USE, DATATYPE, ELEMENT, ATTRIBUTE = "space", "space use", "library", "library use", "datatype", "element", "attribute"
-# What a frame of the reader is for: components of a grammar, patterns in braces or parentheses, parameters, a class of names, an annotation.
-CONTENT, PATTERN, ROUND, PARAMS, CLASS, SQUARE = "content", "pattern", "round", "params", "class", "square"
 ASSIGNMENTS = ("=", "|=", "&=")
 NOT_ANNOTATION = frozenset("{}()|&,?*+-") | {">>", "|=", "&="}
 START_NAME = "start ="
+# A reader gets so many of the inner frames at first.
+SOME_FRAMES = 16
 
 
 class Name(NamedTuple):
-    """A name at a place. `detail` is the file whose components a definition replaces, the namespace or library that a prefix stands for, the prefix that a
-    file inherits, or the keyword of a class of names. None for a namespace: it is inherited."""
+    """A name at a place. `detail` is the file whose components a definition replaces, the namespace or library that a prefix stands for, or the prefix that a
+    file inherits. None for a namespace: it is inherited. In a part of a text `scope` and `detail` count from what is around it (rnc_states.py)."""
 
     role: str
     text: str
     start: int
     end: int
     scope: int
-    detail: Optional[str] = None
+    detail: Union[str, int, None] = None
 
 
 class Opened(NamedTuple):
@@ -39,37 +41,21 @@ class Opened(NamedTuple):
     detail: str
 
 
-class Frame(NamedTuple):
-    """What is open. `words` is the file of an `include`, a datatype, or the role of names. `is_in_definition`: a definition around it is open. `is_part`: it
-    is in the outline."""
-
-    kind: str
-    scope: int = 0
-    words: Optional[str] = None
-    is_in_definition: bool = False
-    is_part: bool = False
-
-
-class State(NamedTuple):
-    """Where the reader is between two parts of a text, how many grammars it has seen, and whether a pattern must come next. `lead` says how long before the
-    end of the part the documentation and annotations of the next component begin, or 0 if there are none, and `last` where the last token before them ends."""
-
-    frames: Tuple[Frame, ...] = (Frame(CONTENT),)
-    is_in_definition: bool = False
-    scopes: int = 1
-    expects: bool = False
-    lead: int = 0
-    last: int = 0
-
-
 class Facts(NamedTuple):
-    """What a part of a text says. The events of the outline are its parts, and where the last open one ends."""
+    """What a part of a text says behind a state. The events of the outline are its parts, and where the last open one ends. `scopes` has the grammars that
+    begin in it, each with the one around it, and `owners` those that have components in it; `used` is what counts of the state. The last state has the inner
+    frames alone."""
 
     names: List[Name]
     events: List[Union[Opened, int]]
     scopes: List[Tuple[int, int]]
-    is_grammar: bool
+    owners: Set[int]
+    used: Used
     after: State
+
+
+class TooFew(Exception):
+    """A part closes more frames than the reader was given."""
 
 
 class Reader:
@@ -81,8 +67,9 @@ class Reader:
         self.is_in_definition, self.scopes = state.is_in_definition, state.scopes
         # Whether a pattern or a name must come next; where the documentation and annotations of the next component begin; where the last one ends.
         self.expects, self.lead, self.last_end = state.expects, -state.lead if state.lead else None, -state.last
-        self.facts = Facts([], [], [], False, state)
-        self.is_grammar = False
+        self.facts = Facts([], [], [], set(), Used(state.frames, False), state)
+        # How many frames there were at least, and whether one more was to be closed.
+        self.lowest, self.is_at_end = len(self.stack), False
         # The index of the first name of the class that was read last.
         self.class_start = 0
 
@@ -102,7 +89,10 @@ class Reader:
                 self.lead = self.lead if self.at == before else None
             if self.lead is None and self.at > before:
                 self.last_end = self.tokens[self.at - 1].end
-        return self.facts._replace(is_grammar=self.is_grammar, after=self._state())
+        outer = self.lowest - 1
+        after = self._state()
+        used = Used(self.facts.used.frames[outer:], self.is_at_end)
+        return self.facts._replace(used=used, after=after._replace(frames=after.frames[outer:]))
 
     def _state(self) -> State:
         """Where the reader is."""
@@ -138,6 +128,13 @@ class Reader:
         if kind == CONTENT:
             self.is_in_definition = False
 
+    def _drop(self) -> None:
+        """Takes the last frame away."""
+        self.stack.pop()
+        self.lowest = min(self.lowest, len(self.stack))
+        if not self.stack:
+            raise TooFew
+
     def _pop(self, end: int) -> None:
         """Closes a frame, and what is open in it."""
         frame = self.stack[-1]
@@ -146,7 +143,7 @@ class Reader:
             self.is_in_definition = frame.is_in_definition
         if frame.kind == CONTENT or frame.is_part:
             self.facts.events.append(end)
-        self.stack.pop()
+        self._drop()
         self.expects = False
 
     def _to_content(self) -> None:
@@ -165,7 +162,8 @@ class Reader:
     def _open_part(self, kind: str, token: Token, text: str, detail: str = "") -> None:
         """Opens a part of the outline."""
         self.facts.events.append(Opened(kind, text, self.lead if self.lead is not None else self.tokens[self.at].start, token.start, token.end, detail))
-        self.is_grammar = self.is_grammar or (kind != "grammar" and self.stack[-1].scope == 0)
+        if kind != "grammar":
+            self.facts.owners.add(self.stack[-1].scope)
 
     def _assigns(self, token: Token) -> bool:
         """Whether a definition begins here."""
@@ -210,7 +208,7 @@ class Reader:
             self._lead(token)
             self.stack.append(Frame(SQUARE, self.stack[-1].scope))
         elif token.kind == SIGN and token.text == "]":
-            self.stack.pop()
+            self._drop()
         elif token.kind == CNAME:
             self._add_prefix(SPACE_USE, token)
         self.at += 1
@@ -218,7 +216,7 @@ class Reader:
     def _leave_annotations(self) -> None:
         """Closes the annotations that are open."""
         while self.stack[-1].kind == SQUARE:
-            self.stack.pop()
+            self._drop()
 
     def _class(self, token: Token) -> None:
         """Takes a token between `element` or `attribute` and its brace. What is none of a class of names ends it."""
@@ -253,7 +251,7 @@ class Reader:
 
     def _element(self) -> None:
         """Opens the braces of an element or attribute. An element that is in no definition is in the outline of a file that is a pattern."""
-        self.stack.pop()
+        self._drop()
         self._push(PATTERN)
         name = next((name for name in self.facts.names[self.class_start:] if name.role == ELEMENT), None)
         if name is not None and not self.is_in_definition:
@@ -338,6 +336,8 @@ class Reader:
             self._pop(self.last_end)
         if len(self.stack) > 1:
             self._pop(token.end)
+        else:
+            self.is_at_end = True
         self.at += 1
 
     def _close_round(self, token: Token) -> None:
@@ -409,7 +409,7 @@ class Reader:
         """Opens an `include` in the outline, and its braces if there are some."""
         event = Opened(INCLUDE, whole.text, self.lead if self.lead is not None else whole.start, whole.start, whole.end, "")
         self.facts.events.append(event)
-        self.is_grammar = self.is_grammar or self.stack[-1].scope == 0
+        self.facts.owners.add(self.stack[-1].scope)
         if self._next(0).text == "{":
             self._push(CONTENT, whole.text)
             self.at += 1
@@ -465,5 +465,11 @@ KEYWORD_ACTIONS: Dict[str, Action] = {
 
 
 def read(text: str, found: Lexed, state: State) -> Facts:
-    """What a part of a text says."""
-    return Reader(text, found.tokens, state).run()
+    """What a part of a text says behind a state, in any file that has the same around it. Few parts close many frames."""
+    count = SOME_FRAMES
+    while True:
+        with contextlib.suppress(TooFew):
+            facts = Reader(text, found.tokens, relative(state, count)).run()
+            if count >= len(state.frames) or not facts.used.is_whole:
+                return facts
+        count *= 4

@@ -146,8 +146,10 @@ class SchemaRequests:
         first, last = (member(member(place, end, dict), "line", int) for end in ("start", "end")) if place is not None else (0, None)
         if document is None:
             return None
-        found = indented(self._outlines.of(opened(document)), "\t" if options.get("insertSpaces") is False else " " * size)
-        return edits(found, Lines(document.lines, self._documents.encoding), first, last)
+        text, unit = document.lines, "\t" if options.get("insertSpaces") is False else " " * size
+        end = text.line_end(last) if last is not None else None
+        found = indented(self._outlines.of(opened(document)), unit, text.line_start(first) if first <= text.line_count else text.length, end)
+        return edits(found, Lines(text, self._documents.encoding), first, last)
 
     def _workspace_symbols(self, params: Any) -> List[Dict[str, Any]]:
         """The components of the open schemas whose names fit a query."""

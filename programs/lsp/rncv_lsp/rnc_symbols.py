@@ -5,7 +5,8 @@ import functools
 from typing import Any, Dict, Iterator, List, Optional, Set, Tuple
 
 from rncv_lsp.rnc_outline import DEFINE, ELEMENT, INCLUDE, START
-from rncv_lsp.rnc_parts import Component, Outline, close_bracket, joined_lines
+from rncv_lsp.rnc_part import close_bracket, joined_lines
+from rncv_lsp.rnc_parts import Component, Outline
 from rncv_lsp.rnc_places import Lines
 from rncv_lsp.rpc import Written
 

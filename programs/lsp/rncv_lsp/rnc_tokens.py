@@ -3,7 +3,7 @@ line."""
 from __future__ import annotations
 
 import re
-from typing import List, NamedTuple, Optional, Tuple
+from typing import Callable, List, NamedTuple, Optional, Tuple
 
 from rncv_lsp.outside import ESCAPE, KEYWORDS, NCNAME, character, meaning
 
@@ -56,26 +56,35 @@ def shown_of(text: str) -> Tuple[str, Optional[List[int]]]:
     return ("".join([*parts, text[last:]]), [*offsets, *range(last, len(text) + 1)]) if parts else (text, None)
 
 
-def lexed(text: str) -> Lexed:
-    """The tokens of a text."""
+def lexed(text: str, has_end: Callable[[int], bool] = lambda place: False) -> Lexed:
+    """The tokens of a text; up to three quotes that have no end in it, if they have one behind it."""
     shown, offsets = shown_of(text) if "\\x" in text else (text, None)
     found: List[Token] = []
     comments: List[Tuple[int, int]] = []
+    open_quotes: List[int] = []
     for match in LOOSE.finditer(shown):
-        kind, (start, end) = match.lastgroup or "", match.span()
+        kind, words, (start, end) = match.lastgroup or "", match[0], match.span()
+        is_open = kind == LITERAL and end == start + 2 and shown[end:end + 1] == words[0]  # an empty literal, and a quote
         if offsets is not None:
             start, end = offsets[start], offsets[end]
+        if is_open:
+            open_quotes.append(start)
+            if has_end(start):
+                break
         if kind == "comment":
             comments.append((start, end))
         else:
-            found.append(Token(kind, match[0] if kind != QUOTED else match[0][1:], start, end))
-    return Lexed(found, comments, open_quotes(found) if '"""' in shown or "'''" in shown else [])
+            found.append(Token(kind, words if kind != QUOTED else words[1:], start, end))
+    return Lexed(found, comments, open_quotes)
 
 
-def open_quotes(tokens: List[Token]) -> List[int]:
-    """Where three quotes begin that have no end in the text: there an empty literal is followed by a quote."""
-    pairs = ((token, following) for token, following in zip(tokens, tokens[1:]) if token.kind == LITERAL and token.text in ('""', "''"))
-    return [token.start for token, following in pairs if following.start == token.end and following.text[:1] == token.text[0]]
+def go_on(found: Lexed, at: int, text: str, has_end: Callable[[int], bool]) -> None:
+    """Takes the tokens of a text behind a place. If that is where three quotes are, they have their end in it."""
+    found.open[:] = [start for start in found.open if start < at]
+    tokens, comments, open_quotes = lexed(text, lambda place: has_end(place + at))
+    found.tokens.extend([Token(kind, words, start + at, end + at) for kind, words, start, end in tokens])
+    found.comments.extend([(start + at, end + at) for start, end in comments])
+    found.open.extend([start + at for start in open_quotes])
 
 
 def literal_words(token: Token) -> str:

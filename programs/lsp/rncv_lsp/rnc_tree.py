@@ -7,7 +7,8 @@ import json
 from typing import List, NamedTuple, Optional, Tuple
 
 from rncv_lsp.rnc_outline import Opened
-from rncv_lsp.rnc_parts import Component, Outline, Part
+from rncv_lsp.rnc_part import Part
+from rncv_lsp.rnc_parts import Component, Outline
 from rncv_lsp.rnc_places import Lines
 from rncv_lsp.rnc_symbols import MOST_DEPTH, kind_of, name_of
 from rncv_lsp.rpc import Written
@@ -88,11 +89,11 @@ class Writer:
         return f'{{"line":%d,"character":{character}}}'
 
 
-def shown(part: Part, words: str, encoding: str) -> Shown:
+def shown(part: Part, encoding: str) -> Shown:
     """What a part adds. It is kept with the part."""
     found = part.shown.get(encoding)
     if found is None:
-        found = part.shown[encoding] = Writer(words, encoding).run(part)
+        found = part.shown[encoding] = Writer(part.words, encoding).run(part)
     return found
 
 
@@ -109,7 +110,7 @@ def written_tree(outline: Outline, lines: Lines) -> Optional[Written]:
     """The components as symbols, those inside others as their children; None if they are too deep for that."""
     found, path = ["["], []  # type: List[str], List[Tuple[int, int]]
     for begin, part in outline.placed():
-        forms, depth = shown(part, outline.lines.text[begin:begin + part.length], lines.encoding)
+        forms, depth = shown(part, lines.encoding)
         if depth + len(path) > MOST_DEPTH:
             return None
         for form, outer in itertools.zip_longest(forms, part.spans.outer):

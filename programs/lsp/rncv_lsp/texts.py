@@ -110,6 +110,11 @@ class Text:
         return self._offsets[-1]
 
     @property
+    def line_count(self) -> int:
+        """How many line ends the text has."""
+        return self._line_counts[-1]
+
+    @property
     def begins_with_tag(self) -> bool:
         """Whether the text begins with `<`, behind blanks. Schemas in the compact syntax do not."""
         return self.slice(0, PIECE_LENGTH).lstrip("\ufeff \t\r\n").startswith("<")

@@ -1,37 +1,20 @@
 """Tests of requests about the names in schemas: definitions, references, renaming, outlines, hovers and completions."""
-import bisect
-import itertools
-import json
 import random
 import re
 import sys
 import unittest
-import unittest.mock
 
 from client import TOP, WithServer, framed, rncv, span
 
 sys.path.insert(0, str(TOP / "programs/lsp"))
 from rncv_lsp.documents import new_document, uri_of  # noqa: E402
 from rncv_lsp.rnc_grammars import Grammars, Outlines  # noqa: E402
-from rncv_lsp.rnc_indent import indented  # noqa: E402
 from rncv_lsp.rnc_names import Asked, rename  # noqa: E402
 from rncv_lsp.rnc_outline import DEFINE, REFERENCE, SPACE_USE  # noqa: E402
-from rncv_lsp.rnc_parts import Outline  # noqa: E402
-from rncv_lsp.rnc_places import Lines  # noqa: E402
-from rncv_lsp.rnc_symbols import foldings, tree  # noqa: E402
-from rncv_lsp.rnc_tokens import lexed  # noqa: E402
-from rncv_lsp.rnc_tree import written_tree  # noqa: E402
 from rncv_lsp.rnc_types import DIGITS, LENGTHS, PARAMETERS, BOUNDS  # noqa: E402
 from rncv_lsp.schema_files import Disk  # noqa: E402
-from rncv_lsp.texts import CODECS, Piece, Text  # noqa: E402
-
-# Words of which texts are made at random.
-WORDS = ("a", "foo ", " ", "\n", "\r\n", "\r", "=", "|=", "{", "}", "[", "]", "(", ")", '"', "'", '"""', "'''", "#", "##", "element ", "attribute ",
-         "start", "grammar", "div", "include", "external", "parent ", "inherit", "namespace ", "datatypes ", "default ", "xsd:int ", "a:b", "a:*", ">>",
-         "~", "\\", "\\x{61}", "\\x{22}", "\n# c\n", "\n## d\n", "\nfoo = text\n", "\n  bar |= baz\n", "\n element ", ",", "-", '"x"', "\u00e9", "\U0001F600")
 
 MARK = re.compile(r"@(\w*)@")
-EDITS_OF_SCHEMAS = 12
 
 
 def taken(text):
@@ -636,17 +619,6 @@ div {
         for text in ("a = {\n b", "a = (\n b }", " ]", "a = 'x\n b", "", "(\n" * 2_000 + ")\n" * 2_000):
             self.assertEqual(self.indented(text), text)
 
-    def test_tokens_stay(self):
-        chosen = random.Random(5)
-        for _ in range(300):
-            text = "".join(chosen.choice(WORDS) for _ in range(chosen.randrange(40)))
-            text += "".join(")" if sign == "(" else "}" if sign == "{" else "]" for sign in reversed(re.findall(r"[\[({]", text)))
-            new = text
-            for line in reversed(indented(Outline(Text(text)), "   ")):
-                self.assertEqual(text[line.start:line.first].strip(" \t"), "")
-                new = new[:line.start] + line.blanks + new[line.first:]
-            self.assertEqual([token[:2] for token in lexed(new).tokens], [token[:2] for token in lexed(text).tokens], text)
-
     def test_valid_after_renaming(self):
         chosen = random.Random(8)
         for name in ("bibliography/bibliography", "configuration/server", "invoices/message"):
@@ -660,105 +632,8 @@ div {
                 rncv.compile({key.rpartition("/")[2]: text for key, text in files.items()}, annotations=True)
 
 
-def folded(text):
-    """What can be folded in a text, by all its tokens."""
-    ends = [found.end() for found in re.finditer("\r\n|\r|\n", text)]
-    tokens, comments, open_quotes = lexed(text)
-    waiting, found = [], set()
-    for token in (token for token in tokens if token.kind == "sign" and token.text in "{}[]"):
-        if token.text in "{[":
-            waiting.append(token)
-            continue
-        while token.text == "}" and waiting and waiting[-1].text == "[":
-            waiting.pop()
-        if waiting and waiting[-1].text + token.text in ("{}", "[]"):
-            found.add((bisect.bisect_right(ends, waiting.pop().start), bisect.bisect_right(ends, token.start) - 1))
-    ranges = [{"startLine": start, "endLine": end} for start, end in found if end > start]
-    lines = sorted({line for start, end in [*comments, *(token[2:] for token in tokens if token.kind == "doc")]
-                    for line in range(bisect.bisect_right(ends, start), bisect.bisect_right(ends, end) + 1)})
-    first = [line for line in lines if line - 1 not in lines]
-    blocks = zip(first, [line for line in lines if line + 1 not in lines])
-    ranges += [{"startLine": start, "endLine": end, "kind": "comment"} for start, end in blocks if end > start]
-    return sorted(ranges, key=lambda reported: (reported["startLine"], -reported["endLine"]))
-
-
-def names_in(outline):
-    """All names of an outline."""
-    return sorted(outline.with_role(*{role for part in outline.parts for role in part.by_role}))
-
-
-class Parts(unittest.TestCase):
-    """The parts in which a file is read."""
-
-    def test_edits_at_random(self):
-        chosen = random.Random(3)
-        for length in (8, 30, 100, 4_096) * 20:
-            with unittest.mock.patch("rncv_lsp.texts.PIECE_LENGTH", length):
-                text = Text("".join(chosen.choice(WORDS) for _ in range(chosen.randrange(150))))
-                outline = Outline(text)
-                for _ in range(5):
-                    start, new = chosen.randrange(text.length + 1), "".join(chosen.choice(WORDS) for _ in range(chosen.randrange(3)))
-                    text = text._replaced(start, min(start + chosen.randrange(4), text.length), new)
-                    outline, fresh, whole = Outline(text, outline), Outline(text), Outline(Text(pieces=[Piece(text.text)]))
-                    self.assertEqual((names_in(outline), outline.components), (names_in(fresh), fresh.components))
-                    self.assertEqual((names_in(outline), outline.components), (names_in(whole), whole.components), text.text)
-                    self.assertTrue(all(0 <= each.opened.start <= each.opened.name_start <= each.opened.name_end <= each.end <= text.length
-                                        for each in outline.components), text.text)
-                    self.check_views(outline, fresh, whole)
-
-    def check_views(self, outline, *others):
-        """What is told of an outline is told of these others too."""
-        lines = Lines(outline.lines, "utf-16")
-        told = json.loads(written_tree(outline, lines) or "null"), foldings(outline, lines, None), indented(outline, "  ")
-        for each in others:
-            self.assertEqual(told, (tree(each, lines), foldings(each, lines, None), indented(each, "  ")), outline.lines.text)
-            self.assertEqual(foldings(outline, lines, 3), foldings(each, lines, 3))
-        for each in outline.components:
-            self.assertEqual(outline.component(each.opened.name_start), (each.opened.start, each.end))
-        self.assertEqual(json.loads(foldings(outline, lines, None)), folded(outline.lines.text))
-
-    def test_edits_of_schemas(self):
-        chosen = random.Random(5)
-        for path in sorted((TOP / "examples").glob("*/*.rnc")):
-            text = Text(path.read_text(encoding="utf-8"))
-            with unittest.mock.patch("rncv_lsp.texts.PIECE_LENGTH", 200), unittest.mock.patch("rncv_lsp.rnc_parts.PART_LENGTH", 50):
-                outline = Outline(text)
-                for _ in range(EDITS_OF_SCHEMAS):
-                    start = chosen.choice((0, text.length, *[chosen.randrange(text.length + 1)] * 6))
-                    length, new = chosen.choice((0, 0, 1, 5, 80)), "".join(chosen.choice(WORDS) for _ in range(chosen.randrange(3)))
-                    text = text._replaced(start, min(start + length, text.length), new)
-                    outline, fresh, whole = Outline(text, outline), Outline(text), Outline(Text(pieces=[Piece(text.text)]))
-                    self.assertEqual((names_in(outline), outline.components), (names_in(fresh), fresh.components))
-                    self.check_views(outline, fresh, whole)
-
-    def test_edits_that_change_what_is_before_them(self):
-        cases = (('a = external "x"\nb = text\nc = b\n', "b =", '~ "y"'), ("a = \"\"\"\nb = text\nc = text\n", "c = text\n", '"""\nd = text\n'),
-                 ("start =\nb = a\nc = text\n", "b =", "b |"), ("## d\nb = a\nc = b\n", "b =", "# e\nb ="))
-        for length, (schema, old, new) in itertools.product((8, 4_096), cases):
-            with unittest.mock.patch("rncv_lsp.texts.PIECE_LENGTH", length), unittest.mock.patch("rncv_lsp.rnc_parts.PART_LENGTH", 1):
-                text, at = Text(schema), schema.index(old)
-                changed = text._replaced(at, at + len(old), new)
-                outline, whole = Outline(changed, Outline(text)), Outline(Text(pieces=[Piece(changed.text)]))
-                self.assertEqual((names_in(outline), outline.components), (names_in(whole), whole.components), schema)
-
-    def test_positions(self):
-        chosen = random.Random(7)
-        for _ in range(200):
-            text = Text("".join(chosen.choice(WORDS) for _ in range(chosen.randrange(30))))
-            for encoding in CODECS:
-                lines = Lines(text, encoding)
-                places = [offset for offset in range(text.length + 1) if text.text[offset - 1:offset + 1] != "\r\n"]
-                self.assertEqual([lines.position(offset) for offset in places], [text.position(offset, encoding) for offset in places])
-
-    def test_what_is_read_again(self):
-        text = Text("start = p0\n" + "".join(f"## {n}\np{n} =\n  element e{n} {{ p{n + 1}?, (p{n // 2} | xsd:int)* }}\n" for n in range(3_500)))
-        outline = Outline(text)
-        self.assertGreater(len(outline.parts), 30)
-        for number in range(20):
-            text = text._replaced(9_000 * number, 9_000 * number, "x")
-            before, outline = {id(part) for part in outline.parts}, Outline(text, outline)
-            self.assertLess(sum(id(part) not in before for part in outline.parts), 6)
-            self.assertEqual(len(list(outline.with_text("p3"))), 4)
+class Types(unittest.TestCase):
+    """The datatypes that completions offer."""
 
     def test_datatypes(self):
         source = (TOP / "programs/xml/src/schema_types.c").read_text(encoding="utf-8")
