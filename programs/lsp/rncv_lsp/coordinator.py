@@ -9,7 +9,7 @@ from typing import Any, Callable, Dict, List, Optional, Set, Tuple
 from rncv_lsp import DATATYPES, USUAL_FAULTS
 from rncv_lsp.documents import Document, Documents, uri_of
 from rncv_lsp.findings import INFORMATION, Finding, diagnostic
-from rncv_lsp.jobs import Jobs, start_thread
+from rncv_lsp.jobs import Job, Jobs, start_thread
 from rncv_lsp.outside import rncv
 from rncv_lsp.publishing import Publisher
 from rncv_lsp.rpc import Connection, described
@@ -76,6 +76,10 @@ class Coordinator:
             self._settle = max(self._settle, min(SETTLE_SECONDS + document.lines.length / SETTLE_LENGTH, MOST_SETTLE_SECONDS))
         self._changed_at = time.monotonic()
         self._changed.set()
+
+    def run_beside(self, name: str, job: Job) -> None:
+        """Runs a job beside the judging, and drops one of the same name that still waits."""
+        self._jobs.put(name, job)
 
     def task_of(self, uri: str) -> Optional[Task]:
         """The last task for a document; None if there was none yet."""

@@ -1,4 +1,4 @@
-"""Threads that judge documents. Only the last job for each document counts."""
+"""Threads that judge documents, and get ready what may be asked about them. Only the last job for each document counts."""
 from __future__ import annotations
 
 import threading
@@ -16,6 +16,24 @@ def start_thread(action: Job, name: str) -> None:
         threading.Thread(target=action, name=name, daemon=True).start()
     finally:
         threading.stack_size(before)
+
+
+class Idle:
+    """Whether the thread that reads messages has nothing to do. It does what it has to do within this object, and another thread waits for its end."""
+
+    def __init__(self) -> None:
+        self._is_idle = threading.Event()
+        self._is_idle.set()
+
+    def __enter__(self) -> None:
+        self._is_idle.clear()
+
+    def __exit__(self, *why: object) -> None:
+        self._is_idle.set()
+
+    def wait(self) -> None:
+        """Waits until it has nothing to do."""
+        self._is_idle.wait()
 
 
 class Jobs:

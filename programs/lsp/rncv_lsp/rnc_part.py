@@ -16,6 +16,8 @@ from rncv_lsp.texts import LINE_END
 LAST_WORDS = ("empty", "text", "notAllowed", "string", "token")
 OPEN_SIGNS = ("=", "|=", "&=", "~", ">>")
 PARTNERS = {"}": "{", ")": "(", "]": "["}
+# What is found of a part when it is asked for.
+FOUND_ONCE = ("brackets", "blocks", "opened", "spans", "by_text", "by_role", "defining")
 # How many ways to read a text are kept; how long a text is that is kept when it is gone, and all of them.
 MOST_WAYS, KEPT_LENGTH, MOST_KEPT_LENGTH = 4, 16_384, 1_048_576
 

@@ -5,16 +5,20 @@ import itertools
 from typing import Any, Callable, Dict, List, Optional, Union
 
 from rncv_lsp.documents import SCHEMA_LANGUAGES, Document, Documents
+from rncv_lsp.jobs import Idle
+from rncv_lsp.rnc_ahead import ahead
 from rncv_lsp.rnc_completion import completion
 from rncv_lsp.rnc_grammars import Grammars, Outlines
 from rncv_lsp.rnc_hover import hover
 from rncv_lsp.rnc_indent import edits, indented
 from rncv_lsp.rnc_names import Asked, definition, highlights, prepared, references, rename
+from rncv_lsp.rnc_parts import Outline
 from rncv_lsp.rnc_places import Lines
 from rncv_lsp.rnc_symbols import MOST_SYMBOLS, flat, foldings, tree
 from rncv_lsp.rnc_tree import written_tree
 from rncv_lsp.rpc import Connection, Handler, Written, member
 from rncv_lsp.schema_files import Disk, opened
+from rncv_lsp.texts import Text
 
 MOST_BLANKS = 16
 CAPABILITIES = {
@@ -42,11 +46,14 @@ def offered(params: Any, *names: str) -> Any:
 
 
 class SchemaRequests:
-    """Answers the requests. Only one thread uses an object. `datatypes` says which set of datatypes schemas may name."""
+    """Answers the requests, to the thread that reads messages. Another thread gets ready what is asked about a schema. `datatypes` says which set of datatypes
+    schemas may name."""
 
     def __init__(self, documents: Documents, datatypes: Callable[[], str]) -> None:
         self._documents, self._datatypes = documents, datatypes
         self._disk, self._outlines = Disk(), Outlines()
+        # The outlines of schemas that were opened, and that nothing was got ready of.
+        self._opened: List[Outline] = []
         self._has_tree = self._is_markdown = self._has_versions = False
         self._most_foldings: Optional[int] = None
         self._registered: List[str] = []
@@ -84,8 +91,13 @@ class SchemaRequests:
 
     def read(self, document: Document) -> None:
         """Reads a schema that was opened, and the files that it reaches, so that the first answer takes no longer than others."""
-        if document.is_schema:
-            self._grammars()
+        self._opened.append(self._grammars().outlines.get(document.key) or Outline(Text()))
+
+    def prepare(self, idle: Idle) -> None:
+        """Gets ready what is asked of schemas that were opened, part by part, while nothing is asked. Only one thread at a time does that."""
+        while self._opened:
+            for _ in ahead(self._opened.pop(), self._documents.encoding):
+                idle.wait()
 
     def _grammars(self) -> Grammars:
         """The grammars of the schemas that are open."""

@@ -11,6 +11,7 @@ import unittest.mock
 from client import TOP
 
 sys.path.insert(0, str(TOP / "programs/lsp"))
+from rncv_lsp.rnc_ahead import ahead  # noqa: E402
 from rncv_lsp.rnc_indent import indented  # noqa: E402
 from rncv_lsp.rnc_parts import Outline  # noqa: E402
 from rncv_lsp.rnc_places import Lines  # noqa: E402
@@ -159,6 +160,14 @@ class Parts(unittest.TestCase):
                 outline = Outline(Text(opened + inside + "}\n" * count + inside + "} )\n" * count + inside))
                 self.check(outline)
                 self.check(Outline(Text(inside + outline.lines.text), outline))
+
+    def test_what_is_ready(self):
+        text = Text("start = a0\n" + "".join(f"a{n} =\n  element a {{ a{n + 1}? }}\n" for n in range(100)))
+        outline, lines = Outline(text), Lines(text, "utf-16")
+        self.assertGreater(len(list(ahead(outline, lines.encoding))), 2 * len(outline.parts))
+        with unittest.mock.patch("rncv_lsp.rnc_tree.Writer"), unittest.mock.patch("rncv_lsp.rnc_indent.Indenter"):
+            self.check_views(outline)
+        self.check(outline)
 
     def test_tokens_stay(self):
         chosen = random.Random(5)
