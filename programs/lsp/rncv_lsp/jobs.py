@@ -1,12 +1,15 @@
 """Threads that judge documents, and get ready what may be asked about them. Only the last job for each document counts."""
 from __future__ import annotations
 
+import gc
 import threading
 from typing import Callable, Dict, Set
 
 Job = Callable[[], None]
 THREADS = 3
 STACK_BYTES = 67_108_864
+# After so many looks for new objects in cycles older ones are looked at too.
+MOST_LOOKS = 20
 
 
 def start_thread(action: Job, name: str) -> None:
@@ -16,6 +19,11 @@ def start_thread(action: Job, name: str) -> None:
         threading.Thread(target=action, name=name, daemon=True).start()
     finally:
         threading.stack_size(before)
+
+
+def look_for_cycles() -> None:
+    """Looks for new objects in cycles now, so that the interpreter seldom does so within an answer; at times for those that are not so new, too."""
+    gc.collect(int(gc.get_count()[1] > MOST_LOOKS))
 
 
 class Idle:

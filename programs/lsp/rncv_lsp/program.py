@@ -12,9 +12,9 @@ from rncv_lsp.versions import shown_version
 
 # The threads that judge give way to the one that reads messages after this time.
 SWITCH_SECONDS = 0.001
-# After so many new objects the interpreter looks for those that are in cycles, and after so many times for old ones too. By default it would do so many times
-# within an answer about a large schema.
-CYCLES = (100_000, 20, 20)
+# After so many new objects the interpreter looks for those that are in cycles, which takes some milliseconds, and after so many times for old ones too. Mostly
+# that is done while nothing is asked (jobs.py). By default it would be done many times within an answer about a large schema.
+CYCLES = (20_000, 200, 20)
 DESCRIPTION = """A language server for RELAX NG schemas in the compact syntax, and for XML documents that have such a schema. It uses the Language Server
 Protocol on its standard streams, and reads no files except schemas. The variable RNCV_LIBRARY names the library. docs/use/EDITORS.md says how to set up
 editors."""

@@ -2,7 +2,6 @@
 text: a literal or a brace that is opened may be closed some keystrokes later."""
 from __future__ import annotations
 
-import bisect
 import functools
 from typing import Any, Dict, Iterable, Iterator, List, NamedTuple, Optional, Set, Tuple
 
@@ -10,7 +9,6 @@ from rncv_lsp.outside import KEYWORDS
 from rncv_lsp.rnc_outline import DEFINE, Facts, Name, Opened
 from rncv_lsp.rnc_states import State
 from rncv_lsp.rnc_tokens import CNAME, DOC, LITERAL, OPEN, QUOTED, SIGN, WORD, Lexed
-from rncv_lsp.texts import LINE_END
 
 # The keywords behind which nothing more must come, and the signs that say what the token behind them is.
 LAST_WORDS = ("empty", "text", "notAllowed", "string", "token")
@@ -212,11 +210,23 @@ class Known:
 
 def scan_of(found: Lexed, words: str) -> Scan:
     """What is kept of the tokens of a part with this text."""
-    ends = [end.end() for end in LINE_END.finditer(words)]
-    comments = found.comments + [(token.start, token.end) for token in found.tokens if token.kind == DOC]
-    lines = [(bisect.bisect_right(ends, start), bisect.bisect_right(ends, end)) for start, end in sorted(comments)]
-    braces = [(bisect.bisect_right(ends, token.start), token.text) for token in found.tokens if token.kind == SIGN and token.text in "{}[]"]
-    return Scan(lines, braces, found.open, is_settled(found), nesting_of(found))
+    comments = sorted(found.comments + [(token.start, token.end) for token in found.tokens if token.kind == DOC])
+    lines = lines_at(words, [place for comment in comments for place in comment])
+    braces = [token for token in found.tokens if token.kind == SIGN and token.text in "{}[]"]
+    numbered = list(zip(lines_at(words, [token.start for token in braces]), [token.text for token in braces]))
+    return Scan(list(zip(lines[::2], lines[1::2])), numbered, found.open, is_settled(found), nesting_of(found))
+
+
+def lines_at(text: str, places: List[int]) -> List[int]:
+    """The lines of places, counted from 0. Each place is behind the one before."""
+    found, line, last, has_returns = [], 0, 0, "\r" in text
+    for place in places:
+        line += text.count("\n", last, place)
+        if has_returns:
+            line += text.count("\r", last, place) - text.count("\r\n", last, place)
+        found.append(line)
+        last = place
+    return found
 
 
 def nesting_of(found: Lexed) -> Optional[Nesting]:

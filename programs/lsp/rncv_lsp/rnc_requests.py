@@ -5,7 +5,7 @@ import itertools
 from typing import Any, Callable, Dict, List, Optional, Union
 
 from rncv_lsp.documents import SCHEMA_LANGUAGES, Document, Documents
-from rncv_lsp.jobs import Idle
+from rncv_lsp.jobs import Idle, look_for_cycles
 from rncv_lsp.rnc_ahead import ahead
 from rncv_lsp.rnc_completion import completion
 from rncv_lsp.rnc_grammars import Grammars, Outlines
@@ -98,6 +98,7 @@ class SchemaRequests:
         while self._opened:
             for _ in ahead(self._opened.pop(), self._documents.encoding):
                 idle.wait()
+            look_for_cycles()
 
     def _grammars(self) -> Grammars:
         """The grammars of the schemas that are open."""

@@ -8,10 +8,11 @@ from typing import Callable, List, NamedTuple, Optional, Tuple
 from rncv_lsp.outside import ESCAPE, KEYWORDS, NCNAME, character, meaning
 
 WORD, QUOTED, CNAME, NSNAME, LITERAL, OPEN, SIGN, DOC = "word", "quoted", "cname", "nsname", "literal", "open", "sign", "doc"
+# A literal in three quotes begins as an empty one with a quote behind it.
 LOOSE = re.compile(rf"""(?P<sign>>>|\|=|&=|[]=,|&?*+{{}}()[~-])
                       | (?P<nsname>{NCNAME}:\*) | (?P<cname>{NCNAME}:{NCNAME}) | (?P<word>{NCNAME}) | (?P<quoted>\\{NCNAME})
-                      | (?P<literal>\"\"\".*?\"\"\" | '''.*?''' | "[^"\r\n]*" | '[^'\r\n]*') | (?P<open>["'][^\r\n]*)
-                      | (?P<doc>\#\#[^\r\n]*) | (?P<comment>\#[^\r\n]*(?:(?:\r\n|\r|\n)[ \t]*\#(?!\#)[^\r\n]*)*)""", re.S | re.X)
+                      | (?P<literal>"[^"\r\n]*" | '[^'\r\n]*') | (?P<open>["'][^\r\n]*)
+                      | (?P<doc>\#\#[^\r\n]*) | (?P<comment>\#[^\r\n]*(?:(?:\r\n|\r|\n)[ \t]*\#(?!\#)[^\r\n]*)*)""", re.X)
 
 
 class Token(NamedTuple):
@@ -62,11 +63,14 @@ def lexed(text: str, has_end: Callable[[int], bool] = lambda place: False) -> Le
     found: List[Token] = []
     comments: List[Tuple[int, int]] = []
     open_quotes: List[int] = []
-    for match in LOOSE.finditer(shown):
-        kind, words, (start, end) = match.lastgroup or "", match[0], match.span()
-        is_open = kind == LITERAL and end == start + 2 and shown[end:end + 1] == words[0]  # an empty literal, and a quote
-        if offsets is not None:
-            start, end = offsets[start], offsets[end]
+    search, at = LOOSE.search, 0
+    while match := search(shown, at):
+        kind, words, (start, at) = match.lastgroup or "", match[0], match.span()
+        is_open = kind == LITERAL and at == start + 2 and shown[at:at + 1] == words[0]  # an empty literal, and a quote
+        if is_open and (end := shown.find(3 * words[0], at + 1)) >= 0:
+            is_open, at = False, end + 3
+            words = shown[start:at]
+        start, end = (start, at) if offsets is None else (offsets[start], offsets[at])
         if is_open:
             open_quotes.append(start)
             if has_end(start):
