@@ -1,7 +1,9 @@
 """Tests of how long the server takes for edits of large documents, and for requests that come while it judges. The limits are for a busy machine.
 
-    python3 -B test_speed.py --times     prints how long answers take behind keystrokes at 20 places in 200 KB: of a processor and by the clock
+    python3 -B test_speed.py --times     prints how long answers take behind keystrokes at 20 places in 200 KB, and the first ones: of a processor and by the
+                                         clock
 """
+import itertools
 import pathlib
 import statistics
 import sys
@@ -40,6 +42,15 @@ e{0} = element name{0} {{
   (e{1} | text | element inner{0} {{ text }})*
 }}
 """
+NOTE = '''[ a:note [ """
+  Some words about the element {0},
+  in two lines.
+""" ] ]
+'''
+# What is typed in front of a definition, or in one, and what closes it: the column, the words, how many lines further they are closed, and by what.
+OPENED = ((0, "div {", 700, "}"), (0, "grammar {", 0, "}"), (2, '"""', 0, '"""'), (2, "[", 0, "]"), (2, "(", 0, ")"), (2, "{", 0, "}"))
+# For so many hundredths of a second a server does nothing that is idle.
+QUIET = 30
 # Some 0.2 seconds when nothing else runs. To copy the whole text for each edit would take 20 seconds.
 SECONDS = 10.0
 
@@ -117,20 +128,36 @@ class Answers(WithServer):
         except (OSError, IndexError, ValueError):
             return time.perf_counter()
 
+    def idle(self):
+        """Waits until no thread of the server has anything to do. If the system does not tell that, some seconds."""
+        tasks, quiet = pathlib.Path(f"/proc/{self.client.process.pid}/task"), 0
+        if not tasks.exists():
+            time.sleep(5)
+            return
+        while quiet < QUIET:
+            states = {path.read_text().rpartition(")")[2].split()[0] for path in tasks.glob("*/stat")}
+            quiet = quiet + 1 if states == {"S"} else 0
+            time.sleep(0.01)
+
+    def timed(self, uri, method, params):
+        """How long the answer to a request takes: of a processor, and by the clock; and the answer. A method may have words behind it."""
+        begin = self.spent(), time.perf_counter()
+        answer = self.client.request(f"textDocument/{method.split()[0]}", {"textDocument": {"uri": uri}, **params})
+        return (self.spent() - begin[0], time.perf_counter() - begin[1]), answer
+
     def typed(self, uri, places, letters, requests):
         """For each request and for the first keystroke at a place, or a later one, how long the answers took: of a processor, and by the clock. `places` are
         lines, in which letters are typed at a column. Behind each keystroke comes one request, so that it bears all that the keystroke costs."""
         times, version = {}, 1
-        self.client.request("x")  # what opening the document costs does not count
+        self.idle()  # what opening the document costs does not count
         for number, (line, column) in enumerate(places):
             for at, letter in enumerate(letters):
                 version += 1
                 self.client.change(uri, version, (line, column + at, line, column + at, letter))
                 every = requests(line, column + at + 1, letters[:at + 1])
                 method = list(every)[(number + at) % len(every)]
-                begin = self.spent(), time.perf_counter()
-                answer = self.client.request(f"textDocument/{method.split()[0]}", {"textDocument": {"uri": uri}, **every[method]})
-                times.setdefault((method, "there" if at else "first"), []).append((self.spent() - begin[0], time.perf_counter() - begin[1]))
+                spent, answer = self.timed(uri, method, every[method])
+                times.setdefault((method, "there" if at else "first"), []).append(spent)
                 self.assertTrue(answer.get("result") or method in MAY_BE_EMPTY, (method, letters[:at + 1], answer))
             version += 1
             self.client.change(uri, version, (line, column, line, column + len(letters), ""))
@@ -160,25 +187,71 @@ class Answers(WithServer):
 
         return self.typed(uri, [(line, 0) for line in places], "<para/><section role='d", requests)
 
-    def in_a_schema(self):
-        """The times in a schema."""
+    def open_schema(self, name, has_notes=False):
+        """Opens a schema. Returns its URI, and its lines."""
         count = ANSWER_LENGTH // len(DEFINITION)
-        text = "start = e0\n" + "".join(DEFINITION.format(number, number + 1) for number in range(count)) + f"e{count} = element last {{ empty }}\n"
-        uri = self.uri("b.rnc")
+        notes = {number: NOTE.format(number) for number in range(0, count, 20)} if has_notes else {}
+        definitions = "".join(notes.get(number, "") + DEFINITION.format(number, number + 1) for number in range(count))
+        text = f"namespace a = \"urn:a\"\nstart = e0\n{definitions}e{count} = element last {{ empty }}\n"
+        uri = self.uri(name)
         self.client.open(uri, text, "rnc")
         self.assertEqual(self.client.found(uri), [])
-        places = self.spread([number for number, line in enumerate(text.split("\n")) if line.startswith("  (e")])
+        return uri, text.split("\n")
 
-        def requests(line, column, typed):
-            """The requests behind a keystroke."""
-            at, name = ({"position": {"line": line, "character": character}} for character in (column, 4))
-            options = {"options": {"tabSize": 2, "insertSpaces": True}}
-            near = {"start": {"line": line - 3, "character": 0}, "end": {"line": line + 3, "character": 0}}
-            return {"completion": at, "hover": name, "definition": name, "references": {**name, "context": {"includeDeclaration": True}},
-                    "rename": {**name, "newName": "other"}, "documentSymbol": {}, "foldingRange": {}, "formatting": options,
-                    "rangeFormatting": {**options, "range": near}}
+    @staticmethod
+    def requests(line, column, typed):
+        """The requests behind a keystroke in a schema."""
+        at, name = ({"position": {"line": line, "character": character}} for character in (column, 4))
+        options = {"options": {"tabSize": 2, "insertSpaces": True}}
+        near = {"start": {"line": max(line - 3, 0), "character": 0}, "end": {"line": line + 3, "character": 0}}
+        return {"completion": at, "hover": name, "definition": name, "references": {**name, "context": {"includeDeclaration": True}},
+                "rename": {**name, "newName": "other"}, "documentSymbol": {}, "foldingRange": {}, "formatting": options,
+                "rangeFormatting": {**options, "range": near}}
 
-        return self.typed(uri, [(line, 3) for line in places], "e1 | e1 | ", requests)
+    def in_a_schema(self):
+        """The times in a schema."""
+        uri, lines = self.open_schema("b.rnc")
+        places = self.spread([number for number, line in enumerate(lines) if line.startswith("  (e")])
+        return self.typed(uri, [(line, 3) for line in places], "e1 | e1 | ", self.requests)
+
+    def in_an_open_schema(self, most=PLACES):
+        """The times behind what opens a brace or a literal and closes it, letter by letter, and is undone. Each time another request comes."""
+        uri, lines = self.open_schema("b.rnc", True)
+        times, methods, version = {}, itertools.cycle(self.requests(0, 0, "")), 1
+        self.idle()
+        for line in self.spread([number for number, line in enumerate(lines) if line.startswith("  (e")])[:most]:
+            for opened in OPENED:
+                typed = self.typed_by(opened, line, (line + opened[2]) % len(lines))
+                undone = [(*edit[:3], edit[3] + 1, "") for edit in reversed(typed)]
+                for when, edit in [*(("typed", edit) for edit in typed), *(("undone", edit) for edit in undone)]:
+                    version += 1
+                    self.client.change(uri, version, edit)
+                    method = next(methods)
+                    spent = self.timed(uri, method, self.requests(line, opened[0] + 1, "")[method])[0]
+                    times.setdefault((f"{opened[1]}{opened[3]}", when), []).append(spent)
+        return times
+
+    @staticmethod
+    def typed_by(opened, line, end):
+        """The edits that open something near a line, and close it in that line or in another one."""
+        column, words, further, closing = opened
+        begin = line - 3 if column == 0 else line  # the first line of the definition
+        first, end = (0, end) if further else (column + len(words), begin)
+        edits = [(begin, at, begin, at, letter) for at, letter in enumerate(words, column)]
+        return edits + [(end, at, end, at, letter) for at, letter in enumerate(closing, first)]
+
+    def at_first(self, rounds=3):
+        """The times of the first request behind the opening of a schema, once the server was idle."""
+        times = {}
+        for method, number in itertools.product(self.requests(100, 4, ""), range(rounds)):
+            uri, lines = self.open_schema(f"{method}{number}.rnc")
+            self.idle()
+            line = next(at for at, each in enumerate(lines) if at > len(lines) // 2 and each.startswith("  (e"))
+            spent, answer = self.timed(uri, method, self.requests(line, 4, "")[method])
+            times.setdefault((method, "opened"), []).append(spent)
+            self.assertTrue(answer.get("result") or method in MAY_BE_EMPTY, (method, answer))
+            self.client.close(uri)
+        return times
 
     def check(self, times):
         """Wants short times."""
@@ -191,10 +264,16 @@ class Answers(WithServer):
     def test_schemas(self):
         self.check(self.in_a_schema())
 
+    def test_open_schemas(self):
+        self.check(self.in_an_open_schema(4))
+
+    def test_first_requests(self):
+        self.check(self.at_first(1))
+
 
 def main():
     """Prints the times."""
-    for kind in ("in_a_document", "in_a_schema"):
+    for kind in [word for word in sys.argv[1:] if word != "--times"] or ("in_a_document", "in_a_schema", "in_an_open_schema", "at_first"):
         case = Answers(kind)
         Answers.setUpClass()
         case.setUp()
