@@ -1,8 +1,10 @@
 #include "controls.h"
 
-static const char mark[] = "\xF4\x8F\xBF\xBF"; /* U+10FFFF, which is no character of any language. It is as long as the shortest reference */
-
-enum { MARK_LENGTH = sizeof mark - 1 };
+enum {
+    DELETE = 0x7F,
+    LETTER_BIT = 0x40, /* by which the letter of a control character differs from it */
+    SHORTEST = 4       /* bytes of a reference */
+};
 
 bool is_control(long code) {
     return code > 0 && code < ' ' && code != '\t' && code != '\n' && code != '\r';
@@ -14,24 +16,20 @@ static int digit_of(char byte, int base) {
     return value < base ? value : -1;
 }
 
-/* The length of a reference to a control character at the start of the text; 0: there is none. */
-static size_t reference_length(struct span text) {
-    if (text.length < MARK_LENGTH || text.data[0] != '&' || text.data[1] != '#') {
+/* The length of a reference to a control character or a delete at the start of the text, and its code; 0: there is none. */
+static size_t reference_length(struct span text, long *code) {
+    if (text.length < SHORTEST || text.data[0] != '&' || text.data[1] != '#') {
         return 0;
     }
     int base = text.data[2] == 'x' ? 16 : 10;
     size_t at = base == 16 ? 3 : 2;
-    long code = 0;
-    while (at < text.length && at < LONGEST_CONTROL && code < ' ' && digit_of(text.data[at], base) >= 0) {
-        code = base * code + digit_of(text.data[at], base);
+    *code = 0;
+    while (at < text.length && at < LONGEST_CONTROL && *code <= DELETE && digit_of(text.data[at], base) >= 0) {
+        *code = base * *code + digit_of(text.data[at], base);
         at++;
     }
-    return at < text.length && at < LONGEST_CONTROL && text.data[at] == ';' && is_control(code) ? at + 1 : 0;
-}
-
-/* What hides a byte of a reference. */
-static char hiding(uint64_t index) {
-    return index < MARK_LENGTH ? mark[index] : 'x';
+    bool is_marked = is_control(*code) || *code == DELETE;
+    return at < text.length && at < LONGEST_CONTROL && text.data[at] == ';' && is_marked ? at + 1 : 0;
 }
 
 static bool begins(struct span text, const char *with) {
@@ -39,69 +37,114 @@ static bool begins(struct span text, const char *with) {
     return text.length >= length && memcmp(text.data, with, length) == 0;
 }
 
+/* Begins a comment, an instruction or a section. */
+static void enter(struct control_scan *scan, char kind, uint64_t offset, const char *begin) {
+    scan->kind = kind;
+    scan->behind = offset + strlen(begin);
+    scan->begin = scan->behind;
+}
+
 /* Finds out what the `<` begins. */
-static void open_markup(struct prolog *prolog, uint64_t offset, struct span rest) {
+static void open_markup(struct control_scan *scan, uint64_t offset, struct span rest) {
     if (begins(rest, "<!--")) {
-        prolog->kind = '-';
-        prolog->behind = offset + strlen("<!--");
+        enter(scan, '-', offset, "<!--");
     } else if (begins(rest, "<?")) {
-        prolog->kind = '?';
-        prolog->behind = offset + strlen("<?");
+        enter(scan, '?', offset, "<?");
+    } else if (scan->is_content && begins(rest, "<![CDATA[")) {
+        enter(scan, '[', offset, "<![CDATA[");
     } else if (!begins(rest, "<!")) {
-        prolog->kind = '<';
+        scan->is_content = true;
     }
 }
 
-/* Goes on in a literal. */
-static void in_literal(struct prolog *prolog, uint64_t offset, struct span rest) {
-    size_t length = reference_length(rest);
+/* Begins a mark if there is a reference. */
+static void open_mark(struct control_scan *scan, uint64_t offset, struct span rest) {
+    long code = 0;
+    size_t length = reference_length(rest, &code);
     if (length > 0) {
-        prolog->has_hidden = true;
-        prolog->hidden = offset;
-        prolog->behind = offset + length;
-    } else if (rest.data[0] == prolog->kind) {
-        prolog->kind = '\0';
+        scan->has_marks = true;
+        scan->letter = (char)(code ^ LETTER_BIT);
+        scan->begin = offset;
+        scan->behind = offset + length;
     }
 }
 
-char prolog_byte(struct prolog *prolog, uint64_t offset, struct span rest) {
+/* The end of what is being read. */
+static const char *end_of(const struct control_scan *scan) {
+    return scan->kind == '-' ? "-->" : scan->kind == '?' ? "?>" : "]]>";
+}
+
+/* Goes on over a byte that has to be looked at. */
+static void look(struct control_scan *scan, uint64_t offset, struct span rest) {
     char byte = rest.data[0];
-    bool is_passed = offset < prolog->behind;
-    if (!is_passed && (prolog->kind == '"' || prolog->kind == '\'')) {
-        in_literal(prolog, offset, rest);
-    } else if (!is_passed && prolog->kind == '\0' && (byte == '"' || byte == '\'')) {
-        prolog->kind = byte;
-    } else if (!is_passed && prolog->kind == '\0' && byte == '<') {
-        open_markup(prolog, offset, rest);
-    } else if (!is_passed && ((prolog->kind == '-' && begins(rest, "-->")) || (prolog->kind == '?' && begins(rest, "?>")))) {
-        prolog->kind = '\0';
-    }
-    bool is_hidden = prolog->has_hidden && offset >= prolog->hidden && offset < prolog->behind && (prolog->kind == '"' || prolog->kind == '\'');
-    return is_hidden ? hiding(offset - prolog->hidden) : byte;
-}
-
-static void hide(char *reference, size_t length) {
-    for (size_t index = 0; index < length; index++) {
-        reference[index] = hiding(index);
+    bool is_quote = byte == '"' || byte == '\'';
+    bool is_in_literal = scan->kind == '"' || scan->kind == '\'';
+    if (scan->kind != '\0' && !is_in_literal) {
+        scan->kind = begins(rest, end_of(scan)) ? '\0' : scan->kind;
+    } else if (byte == '&') {
+        open_mark(scan, offset, rest);
+    } else if (is_in_literal) {
+        scan->kind = byte == scan->kind ? '\0' : scan->kind;
+    } else if (is_quote && !scan->is_content) {
+        scan->kind = byte;
+    } else if (byte == '<') {
+        open_markup(scan, offset, rest);
     }
 }
 
-bool hide_controls(char *text, size_t length) {
-    bool has_any = false;
-    for (size_t at = 0; at < length;) {
-        size_t found = reference_length((struct span){text + at, length - at});
-        hide(text + at, found);
-        has_any |= found > 0;
-        at += found > 0 ? found : 1;
-    }
-    return has_any;
+/* Whether the byte may have to be looked at. */
+static bool is_seen(char byte) {
+    return byte == '&' || byte == '<' || byte == '"' || byte == '\'' || byte == '-' || byte == '?' || byte == ']';
 }
 
-bool has_hidden(struct span text) {
-    for (size_t at = 0; at + MARK_LENGTH <= text.length; at++) {
-        if (text.data[at] == mark[0] && memcmp(text.data + at, mark, MARK_LENGTH) == 0) {
-            return true;
+/* The byte of the last mark at the offset. */
+static char mark_byte(const struct control_scan *scan, uint64_t offset) {
+    bool is_end = offset == scan->begin || offset + 1 == scan->behind;
+    return is_end ? DELETE : offset == scan->begin + 1 ? scan->letter : 'x';
+}
+
+void mark_controls(struct control_scan *scan, uint64_t offset, struct span text, char *to, size_t count) {
+    for (size_t at = 0; at < count; at++) {
+        uint64_t here = offset + at;
+        if (here >= scan->behind && is_seen(text.data[at])) {
+            look(scan, here, (struct span){text.data + at, text.length - at});
+        }
+        to[at] = here >= scan->begin && here < scan->behind ? mark_byte(scan, here) : text.data[at];
+    }
+}
+
+bool mark_controls_in(char *text, size_t length, bool is_content) {
+    struct control_scan scan = {.is_content = is_content};
+    mark_controls(&scan, 0, (struct span){text, length}, text, length);
+    return scan.has_marks;
+}
+
+bool has_control_marks(struct span text) {
+    return text.length > 0 && memchr(text.data, DELETE, text.length) != NULL;
+}
+
+size_t unmark_controls(char *text, size_t length, enum mark_part *part) {
+    size_t kept = 0;
+    for (size_t at = 0; at < length; at++) {
+        char byte = text[at];
+        if (*part == MARK_NONE && byte == DELETE) {
+            *part = MARK_BEGUN;
+        } else if (*part == MARK_NONE) {
+            text[kept++] = byte;
+        } else if (*part == MARK_BEGUN) {
+            text[kept++] = (char)(byte ^ LETTER_BIT);
+            *part = MARK_NAMED;
+        } else if (byte == DELETE) {
+            *part = MARK_NONE;
         }
     }
-    return false;
+    return kept;
+}
+
+bool has_controls(struct span text) {
+    bool is_found = false;
+    for (size_t at = 0; at < text.length && !is_found; at++) {
+        is_found = is_control((unsigned char)text.data[at]);
+    }
+    return is_found;
 }

@@ -1,7 +1,8 @@
 /* References to control characters, which XML 1.1 has and libxml2 does not: `&#1;` to `&#31;` but for tabs and line ends (2.2 of XML 1.1).
  *
- * A document that has such a character in a text or an attribute is outside the profile. One whose DTD alone has it is not, so libxml2 gets other characters
- * for the reference in a DTD. Like a control character they are no blanks, no markup, and in no name. */
+ * libxml2 gets a mark in the place of such a reference, which is as long. A mark begins and ends with a delete, U+007F, and has the letter of the character
+ * between them, as in `^A`. Like a control character it is no blank, no markup, and in no name. XML 1.1 has a delete by a reference alone, and such a reference
+ * becomes a mark too. So what has a delete has a mark. */
 #ifndef CONTROLS_H
 #define CONTROLS_H
 
@@ -11,24 +12,39 @@
 
 enum { LONGEST_CONTROL = 64 /* bytes of a reference that is found; it may have zeros before its digits */ };
 
-/* The part of a document before its root, and how far it was handed to libxml2. Set it to zero before the first byte. */
-struct prolog {
-    char kind;       /* what is being read: a quote for a literal, `-` for a comment, `?` for an instruction, `<` for the root, or 0 for none of these */
-    bool has_hidden; /* references were hidden in the DTD */
-    uint64_t hidden; /* the offset of the last one */
-    uint64_t behind; /* the bytes before this offset need no look: they are of that reference, or begin a comment */
+/* A search for references in a text, and how far it was handed to libxml2. Set it to zero before the first byte of a document or of a text of its DTD. */
+struct control_scan {
+    char kind;       /* what is being read: a quote for a literal of the DTD, `-` for a comment, `?` for an instruction, `[` for a section, or 0 for none of these */
+    bool is_content; /* this is the root or something behind it, or the text of an entity for content: no literals, but CDATA sections */
+    bool has_marks;  /* a reference was found */
+    char letter;     /* of the last one */
+    uint64_t begin;  /* where it begins */
+    uint64_t behind; /* where it ends, or what begins a comment, an instruction or a section: the bytes before need no look */
 };
 
-/* Whether a reference to the code is to such a character. */
+/* How much of a mark was read. */
+enum mark_part { MARK_NONE, MARK_BEGUN, MARK_NAMED };
+
+/* Whether the code is that of such a character. */
 bool is_control(long code);
 
-/* Goes on over a byte at the offset. `rest` begins with it, and has LONGEST_CONTROL bytes unless the document ends. Returns what libxml2 gets for the byte. */
-char prolog_byte(struct prolog *prolog, uint64_t offset, struct span rest);
+/* Copies `count` bytes of the text, with marks in the place of references. The text goes on up to the end of the document, or for LONGEST_CONTROL bytes more. */
+void mark_controls(struct control_scan *scan, uint64_t offset, struct span text, char *to, size_t count);
 
-/* Hides the references in a text of a DTD, which keeps its length. Returns whether there are any. */
-bool hide_controls(char *text, size_t length);
+/* Writes marks into a text of a DTD, or into the text of an entity for content. Returns whether there are any. */
+bool mark_controls_in(char *text, size_t length, bool is_content);
 
-/* Whether a text has a character for a hidden reference. */
-bool has_hidden(struct span text);
+/* Whether a text has a mark, or a part of one. */
+bool has_control_marks(struct span text);
+
+/* Writes characters in the place of their marks. `part` is what was read of a mark before. Returns the new length. */
+size_t unmark_controls(char *text, size_t length, enum mark_part *part);
+
+/* Whether a text without marks has a control character. */
+bool has_controls(struct span text);
+
+/* What the library gets for each of them, since its texts are those of XML 1.0: a character that has the same category and block, and that no datatype tells
+ * from it unless the schema has it. */
+enum { INSTEAD_OF_CONTROL = 0x7F };
 
 #endif

@@ -21,8 +21,6 @@ enum {
     MOST_GROWTH = 100      /* how many times as long as the document their text may be, above that */
 };
 
-const char control_character[] = "a control character by a reference, which XML 1.1 has: outside the profile";
-
 static const char too_deep[] = "more than 500 entities in one another: outside the profile";
 
 static const char *plain(const xmlChar *text) {
@@ -195,11 +193,11 @@ static void check_text(struct declarations *declarations, struct span text, bool
     }
 }
 
-/* Hides the references to control characters in the text of a parameter entity. */
-static void hide(struct declarations *declarations, char *text, size_t length) {
+/* Marks the references to control characters in the text of an entity. */
+static void mark(struct declarations *declarations, char *text, size_t length, bool is_parameter) {
     struct feed *feed = declarations->feed;
-    if (feed->decoding.is_1_1 && hide_controls(text, length)) {
-        feed->prolog.has_hidden = true;
+    if (feed->decoding.is_1_1 && mark_controls_in(text, length, !is_parameter)) {
+        feed_has_marks(feed);
     }
 }
 
@@ -208,9 +206,7 @@ void declarations_entity(struct declarations *declarations, bool is_parameter, x
     if (text == NULL) {
         return;
     }
-    if (is_parameter) {
-        hide(declarations, (char *)text, strlen((const char *)text));
-    }
+    mark(declarations, (char *)text, strlen((const char *)text), is_parameter);
     struct span span = {(const char *)text, strlen((const char *)text)};
     declarations->has_blank_references |= !is_parameter && has_blank_reference(span);
     check_text(declarations, span, is_parameter);
@@ -240,8 +236,14 @@ static void keep_default(struct declarations *declarations, const xmlChar *eleme
         declarations->default_capacity = capacity;
     }
     struct namespace_default *kept = &declarations->defaults[declarations->default_count++];
-    *kept = (struct namespace_default){strdup((const char *)element), strdup((const char *)name), strdup((const char *)value)};
-    if (kept->element == NULL || kept->name == NULL || kept->value == NULL) {
+    struct bytes unmarked = NO_BYTES;
+    enum mark_part part = MARK_NONE;
+    add_unmarked((struct span){(const char *)value, strlen((const char *)value)}, &unmarked);
+    unmarked.length = declarations->feed->decoding.is_1_1 ? unmark_controls(unmarked.data, unmarked.length, &part) : unmarked.length;
+    *kept = (struct namespace_default){strdup((const char *)element), strdup((const char *)name), strdup(bytes_text(&unmarked))};
+    bool is_lost = unmarked.failed;
+    bytes_free(&unmarked);
+    if (is_lost || kept->element == NULL || kept->name == NULL || kept->value == NULL) {
         out_of_memory(declarations);
     }
 }
@@ -346,9 +348,7 @@ static struct twin *load(struct declarations *declarations, const xmlEntity *ent
     }
     if (is_read) {
         declarations->loaded += text.length;
-        if (type == XML_INTERNAL_PARAMETER_ENTITY) {
-            hide(declarations, text.data, text.length);
-        }
+        mark(declarations, text.data, text.length, type == XML_INTERNAL_PARAMETER_ENTITY);
         check_text(declarations, (struct span){text.data, text.length}, type == XML_INTERNAL_PARAMETER_ENTITY);
         if (declarations->loaded > MOST_LOADED) {
             refuse(declarations, "over a limit of this program: external entities of more than 67,108,864 bytes");
@@ -430,12 +430,6 @@ static xmlEntityPtr external_of(struct declarations *declarations, xmlEntityPtr 
     return NULL;
 }
 
-/* Whether a reference outside the DTD gives a control character. In the DTD it may be in a default that no tag has. */
-static bool gives_control(const struct declarations *declarations, const char *text) {
-    const struct feed *feed = declarations->feed;
-    return feed->prolog.has_hidden && feed->parser->inSubset == 0 && has_hidden((struct span){text, strlen(text)});
-}
-
 /* Whether an entity is a text that may be put into a value, and is not being put there. */
 static bool is_for_value(const struct declarations *declarations, const xmlEntity *entity) {
     bool is_in_itself = false;
@@ -473,8 +467,6 @@ static void put_into_value(void *context, struct span name, struct bytes *text) 
         bytes_add_byte(text, '&');
         bytes_add(text, name.data, name.length);
         bytes_add_byte(text, ';');
-    } else if (gives_control(declarations, plain(entity->content))) {
-        refuse(declarations, control_character);
     } else if (count_reference(declarations, entity)) {
         const struct level level = {entity, declarations->level, declarations->level->depth + 1};
         declarations->level = &level;
@@ -634,9 +626,6 @@ xmlEntityPtr declarations_general(struct declarations *declarations, const xmlCh
         return entity;
     }
     check_height(declarations, entity);
-    if (gives_control(declarations, (const char *)entity->content)) {
-        refuse(declarations, control_character);
-    }
     if (feed->fault->kind != FAULT_NONE) {
         return NULL;
     }

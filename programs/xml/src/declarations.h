@@ -8,9 +8,6 @@
 
 #include <libxml/hash.h>
 
-/* Why a document is not judged that has a control character. */
-extern const char control_character[];
-
 /* A declaration of a namespace that an element has by default. */
 struct namespace_default {
     char *element;

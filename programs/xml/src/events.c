@@ -18,7 +18,7 @@ enum {
     ASKED_BYTES = 65536,   /* of texts, after which the receiver is asked how much it keeps */
     SEARCHED = 1000000000, /* namespaces that are looked at in any document */
     MOST_SEARCHED = 64,    /* and for each of its bytes, above that */
-    COST_OF_DEFAULTS = 16  /* libxml2 compares attributes and namespaces by default with all others: so many pairs cost a byte */
+    COST_OF_DEFAULTS = 16, /* libxml2 compares attributes and namespaces by default with all others: so many pairs cost a byte */
 };
 
 struct reader {
@@ -30,20 +30,27 @@ struct reader {
     struct start_event start; /* the last one, with what is open now as its depth */
     struct event_attribute *attributes; /* room for those of a tag */
     size_t attribute_capacity;
-    struct bytes values; /* those of its attributes that have blanks in the place of marks */
+    struct bytes values; /* those of its attributes that have other characters in the place of marks */
+    struct bytes piece;  /* of a text that has them */
+    enum mark_part part; /* what was read of a mark in it */
     struct event_declaration *declared; /* room for its declarations */
     size_t declared_capacity;
     bool has_bad_name;   /* the tag that is being read has a name that is no QName */
     bool has_double;     /* two of its attributes have one name */
     bool has_undeclared; /* a name of it has a prefix that is not declared */
+    const xmlParserCtxt *tag_parser; /* what has read a tag that takes a prefix back */
     bool is_unusual;     /* the next tag may be such a one, or elements may declare namespaces by default */
     bool is_empty;       /* the end of the last start tag is in it */
+    bool has_marked_uri; /* a namespace had marks */
+    bool has_control;    /* the receiver was asked whether it takes control characters */
     size_t most_depth;
     size_t unasked;    /* the bytes of texts since the receiver was asked how much it keeps */
     uint64_t searched; /* how many open namespaces were looked at for names */
     struct parser_memory memory;
     struct known_names names; /* at the end, since most of it is not set at first */
 };
+
+static const char control_character[] = "a control character by a reference, which XML 1.1 has: outside the profile";
 
 /* The reader of this thread's document. libxml2 reports some errors without it. */
 static _Thread_local struct reader *current = NULL;
@@ -151,20 +158,63 @@ static struct position other_position(struct reader *reader, size_t length) {
     return (struct position){begin, has_blanks ? length : 0};
 }
 
-/* Takes any piece of text. */
-static OUT_OF_LINE void take_any_text(struct reader *reader, const xmlChar *text, size_t length) {
-    bool has_raw = is_raw(reader, text);
-    struct position position = has_raw ? raw_position(reader, text, length) : other_position(reader, length);
-    if (length == 0) {
-        return;
+/* Whether the receiver takes a text or value with a control character. False: there is a fault. */
+static bool takes_control(struct reader *reader, struct position position) {
+    if (!reader->has_control) {
+        const char *why = reader->sink.control == NULL ? control_character : reader->sink.control(reader->sink.context);
+        reader->has_control = true;
+        if (why != NULL) {
+            fault_set(reader->fault, FAULT_OUTSIDE, place_of(position), "%s", why);
+        }
     }
-    reader->sink.text(reader->sink.context, position, (struct span){(const char *)text, length}, has_raw);
-    reader->unasked += length;
+    return is_good(reader);
+}
+
+/* Hands a piece of text to the receiver. */
+static void hand_text(struct reader *reader, struct position position, struct span text, bool has_raw) {
+    reader->sink.text(reader->sink.context, position, text, has_raw);
+    reader->unasked += text.length;
     if (reader->unasked > ASKED_BYTES) {
         ask_held(reader);
         if (feed_is_over(&reader->feed)) {
             feed_check_memory(&reader->feed, place_of(position));
         }
+    }
+}
+
+/* Takes any piece of text. */
+static OUT_OF_LINE void take_any_text(struct reader *reader, const xmlChar *text, size_t length) {
+    bool has_raw = is_raw(reader, text);
+    struct position position = has_raw ? raw_position(reader, text, length) : other_position(reader, length);
+    if (length > 0) {
+        hand_text(reader, position, (struct span){(const char *)text, length}, has_raw);
+    }
+}
+
+/* Takes a piece of text in a document with marks for control characters. libxml2 may end a piece in a mark. */
+static void take_marked_text(void *context, const xmlChar *text, int size) {
+    struct reader *reader = context;
+    struct span span = {(const char *)text, size > 0 ? (size_t)size : 0};
+    if (!is_good(reader)) {
+        return;
+    }
+    if (reader->part == MARK_NONE && !has_control_marks(span)) {
+        take_any_text(reader, text, span.length);
+        return;
+    }
+    bool has_raw = is_raw(reader, text);
+    bool is_begun = has_raw && reader->part == MARK_BEGUN;
+    struct position position = has_raw ? raw_position(reader, text, span.length) : other_position(reader, span.length);
+    position.at -= is_begun; /* the reference begins there */
+    bytes_clear(&reader->piece);
+    bytes_add(&reader->piece, span.data, span.length);
+    if (reader->piece.failed) {
+        out_of_memory(reader);
+        return;
+    }
+    span = (struct span){reader->piece.data, unmark_controls(reader->piece.data, span.length, &reader->part)};
+    if (span.length > 0 && (!has_controls(span) || takes_control(reader, position))) {
+        hand_text(reader, position, span, false);
     }
 }
 
@@ -215,6 +265,39 @@ static bool has_room(struct reader *reader, void **items, size_t count, size_t *
     *items = longer;
     *capacity = wanted;
     return true;
+}
+
+/* Adds a value with blanks and control characters in the place of their marks. False: it has no marks, and is not added. */
+static bool unmark(const struct reader *reader, struct span value, struct bytes *to) {
+    bool has_blanks = reader->declarations.has_marks && has_blank_marks(value);
+    bool is_marked = reader->feed.controls.has_marks && has_control_marks(value);
+    size_t begin = to->length;
+    enum mark_part part = MARK_NONE;
+    if (has_blanks) {
+        add_unmarked(value, to);
+    } else if (is_marked) {
+        bytes_add(to, value.data, value.length);
+    }
+    if (is_marked && !to->failed) {
+        to->length = begin + unmark_controls(to->data + begin, value.length, &part);
+    }
+    return has_blanks || is_marked;
+}
+
+/* The URI of a namespace without marks, in the dictionary. */
+static const xmlChar *unmarked_uri(struct reader *reader, const xmlChar *uri) {
+    struct bytes text = NO_BYTES;
+    if (!unmark(reader, span_of(uri), &text)) {
+        return uri;
+    }
+    reader->has_marked_uri = true;
+    const char *written = bytes_text(&text);
+    const xmlChar *found = text.failed ? NULL : xmlDictLookup(reader->feed.parser->dict, (const xmlChar *)written, -1);
+    bytes_free(&text);
+    if (found == NULL) {
+        out_of_memory(reader);
+    }
+    return found == NULL ? uri : found;
 }
 
 /* Adds a declaration to those of the tag. */
@@ -279,7 +362,7 @@ static void add_defaults(struct reader *reader, struct start_event *start) {
 static void add_declarations(struct reader *reader, struct start_event *start, int count, const xmlChar **namespaces) {
     start->declaration_count = 0;
     for (int at = 0; at < count && is_good(reader); at++) {
-        add_declaration(reader, start, span_of(namespaces[2 * at]), span_of(namespaces[2 * at + 1]));
+        add_declaration(reader, start, span_of(namespaces[2 * at]), span_of(unmarked_uri(reader, namespaces[2 * at + 1])));
     }
     if (reader->declarations.default_count > 0) {
         add_defaults(reader, start);
@@ -297,7 +380,12 @@ static const struct event_name *name_of(struct reader *reader, const xmlChar *lo
     if (reader->names.locals[place] != NULL) {
         keep(reader); /* another name vanishes from there */
     }
-    return known_name_new(&reader->names, reader->feed.parser->dict, local, prefix, uri);
+    return known_name_new(&reader->names, reader->feed.parser->dict, local, prefix, uri, unmarked_uri(reader, uri));
+}
+
+/* Whether values of attributes may have marks. */
+static bool may_have_marks(const struct reader *reader) {
+    return reader->declarations.has_marks || reader->feed.controls.has_marks;
 }
 
 /* Makes room for the values that have marks, so that they stay where they are. */
@@ -312,19 +400,23 @@ static void clear_values(struct reader *reader, int count, const xmlChar **attri
     }
 }
 
-/* The value with the blanks in the place of their marks. */
+/* The value without marks. */
 static struct span unmarked(struct reader *reader, struct span value) {
-    if (!reader->declarations.has_marks || !has_blank_marks(value)) {
+    const struct bytes *values = &reader->values;
+    size_t begin = values->length;
+    if (!unmark(reader, value, &reader->values)) {
         return value;
     }
-    size_t begin = reader->values.length;
-    add_unmarked(value, &reader->values);
-    return (struct span){reader->values.data + begin, value.length};
+    struct span found = {values->data + begin, values->length - begin};
+    if (has_controls(found)) {
+        takes_control(reader, reader->start.position);
+    }
+    return found;
 }
 
 static void add_attributes(struct reader *reader, struct start_event *start, int count, const xmlChar **attributes) {
     start->attribute_count = 0;
-    if (reader->declarations.has_marks) {
+    if (may_have_marks(reader)) {
         clear_values(reader, count, attributes);
     }
     for (int at = 0; at < count && is_good(reader); at++, attributes += 5) {
@@ -341,15 +433,6 @@ static void add_attributes(struct reader *reader, struct start_event *start, int
     start->attributes = reader->attributes;
 }
 
-/* Refuses a tag that declares a namespace with marks. */
-static void check_marks(struct reader *reader, const struct start_event *start) {
-    for (size_t at = 0; at < start->declaration_count && is_good(reader); at++) {
-        if (has_blank_marks(start->declarations[at].uri)) {
-            fault_set(reader->fault, FAULT_OUTSIDE, place_of(start->position), "a namespace with an entity that refers to a tab or a line end: outside the profile");
-        }
-    }
-}
-
 /* Whether the tag has the declaration by default, as far as the DTD says. */
 static bool may_be_default(const struct reader *reader, const struct event_declaration *declaration) {
     bool is_one = false;
@@ -362,12 +445,19 @@ static bool may_be_default(const struct reader *reader, const struct event_decla
     return is_one;
 }
 
-/* How often the tag itself declares a prefix, by its text; 0: its text is not there. */
-static size_t declared_times(struct reader *reader, struct span prefix) {
-    struct feed *feed = &reader->feed;
-    uint64_t end = reader->start.position.at;
-    uint64_t begin = feed_last(feed, end, "<");
-    return is_in_content(reader) ? withdrawn_count(feed_text(feed, begin, (size_t)(end - begin)), prefix) : 0;
+/* The text of the tag that was read, which takes a prefix back. */
+static struct span tag_text(const struct reader *reader) {
+    if (is_in_content(reader)) {
+        uint64_t end = reader->start.position.at;
+        uint64_t begin = feed_last(&reader->feed, end, "<");
+        return feed_text(&reader->feed, begin, (size_t)(end - begin));
+    }
+    const xmlParserInput *input = reader->tag_parser->input;
+    const xmlChar *begin = input->cur;
+    while (begin > input->base && *begin != '<') {
+        begin--;
+    }
+    return (struct span){(const char *)begin, (size_t)(input->cur - begin)};
 }
 
 /* Drops the declarations by default of prefixes that the tag takes back, since what a tag has itself is not there by default. */
@@ -376,10 +466,11 @@ static void drop_defaults(struct reader *reader, struct start_event *start) {
     for (size_t at = 0; at < start->declaration_count && is_good(reader); at++) {
         struct event_declaration declaration = reader->declared[at];
         bool is_both = withdrawn_has(&reader->withdrawn, declaration.prefix) && may_be_default(reader, &declaration);
-        size_t times = is_both ? declared_times(reader, declaration.prefix) : 0;
+        struct span tag = is_both ? tag_text(reader) : (struct span){"", 0};
+        size_t times = withdrawn_count(tag, declaration.prefix);
+        count_defaults(reader, tag.length);
         if (is_both && times == 0) {
-            fault_set(reader->fault, FAULT_OUTSIDE, place_of(start->position),
-                      "a prefix that XML 1.1 lets an element of an entity take back, which a DTD declares: outside the profile");
+            fault_set(reader->fault, FAULT_OUTSIDE, place_of(start->position), "a tag that is too long for a prefix that it takes back: outside the profile");
         }
         if (times != 1) {
             reader->declared[kept++] = declaration;
@@ -422,28 +513,19 @@ static void take_withdrawn(struct reader *reader, struct start_event *start) {
     }
 }
 
-/* Whether one of the attributes by default, which are the last ones, has a control character. */
-static bool has_control_by_default(const struct start_event *start, size_t default_count) {
-    bool is_found = false;
-    for (size_t at = start->attribute_count - default_count; at < start->attribute_count && !is_found; at++) {
-        is_found = has_hidden(start->attributes[at].value);
-    }
-    return is_found;
-}
-
-/* Whether a namespace that the tag declares has one. */
+/* Whether a namespace that the tag declares has a control character. */
 static bool has_control_in_namespace(const struct start_event *start) {
     bool is_found = false;
     for (size_t at = 0; at < start->declaration_count && !is_found; at++) {
-        is_found = has_hidden(start->declarations[at].uri);
+        is_found = has_controls(start->declarations[at].uri);
     }
     return is_found;
 }
 
 /* Reads the tag by the rules of XML 1.1. */
-static void read_1_1(struct reader *reader, struct start_event *start, size_t default_count) {
-    if (reader->feed.prolog.has_hidden && (has_control_by_default(start, default_count) || has_control_in_namespace(start))) {
-        fault_set(reader->fault, FAULT_OUTSIDE, place_of(start->position), "%s", control_character);
+static void read_1_1(struct reader *reader, struct start_event *start) {
+    if (reader->feed.controls.has_marks && has_control_in_namespace(start)) {
+        fault_set(reader->fault, FAULT_OUTSIDE, place_of(start->position), "a namespace with a control character by a reference: outside the profile");
     }
     take_withdrawn(reader, start);
 }
@@ -525,11 +607,12 @@ static OUT_OF_LINE void take_any_start(void *context, const xmlChar *local, cons
     start->name = name_of(reader, local, prefix, uri);
     start->has_fleeting_name = start->name == &reader->names.other;
     add_declarations(reader, start, namespace_count, namespaces);
-    if (reader->declarations.has_marks) {
-        check_marks(reader, start);
+    if (reader->has_marked_uri) { /* libxml2 may not see that two namespaces are one */
+        count_defaults(reader, (uint64_t)attribute_count * (uint64_t)attribute_count / COST_OF_DEFAULTS);
+        reader->has_double = true;
     }
     if (reader->feed.decoding.is_1_1 && is_good(reader)) {
-        read_1_1(reader, start, (size_t)default_count);
+        read_1_1(reader, start);
     }
     if (is_good(reader)) {
         hand_start(reader, start);
@@ -538,7 +621,7 @@ static OUT_OF_LINE void take_any_start(void *context, const xmlChar *local, cons
     start->has_fleeting_name = false;
     reader->has_double = false;
     reader->has_undeclared = false;
-    reader->is_unusual = reader->declarations.default_count > 0 || reader->declarations.has_marks || reader->withdrawn.count > 0;
+    reader->is_unusual = reader->declarations.default_count > 0 || may_have_marks(reader) || reader->withdrawn.count > 0;
 }
 
 /* Whether a start tag is usual: in the document, of a known name, with nothing that is declared or that is there by default. */
@@ -658,6 +741,23 @@ static struct position instruction_position(struct reader *reader) {
     return (struct position){begin, 0};
 }
 
+/* Hands an instruction to the receiver. One of an entity may have marks. A receiver that takes control characters in texts takes no instructions. */
+static void hand_instruction(struct reader *reader, struct position position, struct span target, struct span data) {
+    enum mark_part part = MARK_NONE;
+    bytes_clear(&reader->piece);
+    if (reader->feed.controls.has_marks && has_control_marks(data)) {
+        bytes_add(&reader->piece, data.data, data.length);
+        data = (struct span){reader->piece.data, reader->piece.failed ? 0 : unmark_controls(reader->piece.data, data.length, &part)};
+    }
+    if (reader->piece.failed) {
+        out_of_memory(reader);
+    } else if (reader->sink.control == NULL && has_controls(data)) {
+        fault_set(reader->fault, FAULT_OUTSIDE, place_of(position), "%s", control_character);
+    } else {
+        reader->sink.instruction(reader->sink.context, position, target, data);
+    }
+}
+
 static void take_instruction(void *context, const xmlChar *target, const xmlChar *data) {
     struct reader *reader = context;
     struct span span = span_of(data);
@@ -666,7 +766,7 @@ static void take_instruction(void *context, const xmlChar *target, const xmlChar
         span = (struct span){span.data + mark, span.length - mark};
     }
     if (is_good(reader)) {
-        reader->sink.instruction(reader->sink.context, instruction_position(reader), span_of(target), span);
+        hand_instruction(reader, instruction_position(reader), span_of(target), span);
     }
 }
 
@@ -808,8 +908,10 @@ static void take_malformed(struct reader *reader, parser_error *error) {
 }
 
 /* Takes a prefix that a tag takes back, which libxml2 passes over. */
-static void take_prefix(struct reader *reader, const char *prefix) {
+static void take_prefix(struct reader *reader, const parser_error *error) {
+    const char *prefix = error->str1;
     reader->is_unusual = true;
+    reader->tag_parser = error->ctxt;
     if (!withdrawn_add(&reader->withdrawn, span_of((const xmlChar *)prefix), reader->start.depth + 1)) {
         fault_set(reader->fault, FAULT_MALFORMED, error_place(reader, &(parser_error){.code = XML_ERR_ATTRIBUTE_REDEFINED}),
                   "malformed XML: the attribute xmlns:%s is there twice", prefix);
@@ -819,7 +921,7 @@ static void take_prefix(struct reader *reader, const char *prefix) {
 /* Takes an error that is none in XML 1.1. False: it is one. */
 static bool take_1_1(struct reader *reader, const parser_error *error) {
     if (takes_prefix_back(error)) {
-        take_prefix(reader, error->str1);
+        take_prefix(reader, error);
     } else if (error->domain == XML_FROM_PARSER && error->code == XML_ERR_INVALID_CHAR && is_control(error->int1)) {
         fault_set(reader->fault, FAULT_OUTSIDE, error_place(reader, error), "%s", control_character);
     } else {
@@ -968,6 +1070,16 @@ static void read_by_libxml2(struct reader *reader) {
     parser_memory_end(&reader->memory);
 }
 
+/* From now on texts and values may have marks for control characters. */
+static void use_marks(void *context) {
+    struct reader *reader = context;
+    xmlSAXHandler *handlers = reader->feed.parser->sax;
+    handlers->characters = take_marked_text;
+    handlers->ignorableWhitespace = take_marked_text;
+    handlers->cdataBlock = take_marked_text;
+    reader->is_unusual = true;
+}
+
 static void open_reader(struct reader *reader, const struct byte_source *source, const struct event_sink *sink, struct fault *fault) {
     memset(reader, 0, offsetof(struct reader, names.slots));
     reader->sink = *sink;
@@ -979,6 +1091,7 @@ static void open_reader(struct reader *reader, const struct byte_source *source,
     feed_open(&reader->feed, source, fault);
     reader->feed.keep = keep;
     reader->feed.before_read = before_read;
+    reader->feed.marked = use_marks;
     reader->feed.most = sink->memory == 0 ? USUAL_MEMORY : sink->memory;
     reader->feed.context = reader;
 }
@@ -994,6 +1107,7 @@ void read_events(const struct byte_source *source, const struct event_sink *sink
     feed_close(&reader->feed);
     withdrawn_free(&reader->withdrawn);
     bytes_free(&reader->values);
+    bytes_free(&reader->piece);
     free(reader->attributes);
     free(reader->declared);
     free(reader);

@@ -61,6 +61,8 @@ struct event_sink {
     void (*flush)(void *context); /* comes before more of the document is read, which may take long; NULL: not wanted */
     void (*keep)(void *context);  /* comes before names, raw texts and places of earlier events vanish, also after a fault; NULL: not wanted */
     size_t (*held)(const void *context); /* how many bytes it keeps of the document; NULL: none that grow with it */
+    /* Comes before the first text or attribute with a control character of XML 1.1. Returns why the document is refused; NULL: it is not. NULL: each is. */
+    const char *(*control)(void *context);
     void *context;
     bool checks_names; /* a tag that breaks Namespaces in XML is a fault, with its clause */
     bool reads_prefixes; /* prefixes in values have a meaning for it, so a tag that takes one back is a fault */

@@ -8,12 +8,14 @@ enum {
     PIECE_BYTES = 65536,    /* of the document, read at once */
     TOKEN_BYTES = 1000000000, /* the longest markup: libxml2 takes no more */
     LONG_BYTES = 1048576,     /* the beginning of longer markup is not kept */
-    MOST_CHOICES = 10000,   /* of a declaration: libxml2 compares them in pairs */
+    MOST_CHOICES = 10000,   /* of a declaration of attributes: libxml2 compares them in pairs */
     COUNTED_BYTES = 128,    /* whose line feeds are counted together: fewer than 256 */
     FORGOTTEN_BYTES = 65536 /* the text that was read is forgotten in pieces of this length */
 };
 
-const char too_many_choices[] = "over a limit of this program: a declaration has more than 10,000 choices";
+static const char of_element[] = "<!ELEMENT";
+
+const char too_many_choices[] = "over a limit of this program: a declaration of attributes has more than 10,000 choices";
 const char too_many_attributes[] = "over a limit of this program: a tag has more than 10,000 attributes and declarations";
 
 void feed_open(struct feed *feed, const struct byte_source *source, struct fault *fault) {
@@ -295,11 +297,18 @@ static size_t skipped(struct span text, size_t at) {
     return at;
 }
 
+/* Whether a declaration of an element is at the place. Its choices are not compared. */
+static bool is_element(struct span text, size_t at) {
+    return text.length - at >= strlen(of_element) && memcmp(text.data + at, of_element, strlen(of_element)) == 0;
+}
+
 bool has_too_many_choices(struct span text) {
     size_t count = 0;
+    bool counts = true;
     for (size_t at = 0; at < text.length && count <= MOST_CHOICES;) {
         size_t behind = text.data[at] == '<' ? skipped(text, at) : at;
-        count = text.data[at] == '>' ? 0 : count + (text.data[at] == '|' && behind == at);
+        counts = text.data[at] == '>' || (counts && !is_element(text, at));
+        count = text.data[at] == '>' ? 0 : count + (counts && text.data[at] == '|' && behind == at);
         at = behind > at ? behind : at + 1;
     }
     return count > MOST_CHOICES;
@@ -354,7 +363,7 @@ static void check_tag(struct feed *feed, uint64_t markup) {
 /* Refuses a declaration with too many choices, before all of it has come. */
 static void check_choices(struct feed *feed, uint64_t markup) {
     uint64_t given = feed->begin + feed->given;
-    if (feed->parser->instate != XML_PARSER_DTD || is_at(feed, markup, "<!--") || is_at(feed, markup, "<?")) {
+    if (feed->parser->instate != XML_PARSER_DTD || is_at(feed, markup, "<!--") || is_at(feed, markup, "<?") || is_at(feed, markup, of_element)) {
         return;
     }
     if (feed->choices_begin != feed->next) {
@@ -387,26 +396,32 @@ static void stop_asking(struct feed *feed) {
     }
 }
 
-/* Whether references to control characters are to be hidden. */
-static bool hides(const struct feed *feed) {
-    return feed->decoding.is_1_1 && feed->prolog.kind != '<';
-}
-
 /* Whether there is enough of the text for libxml2, which wants so many bytes. */
 static bool has_enough(const struct feed *feed, size_t wanted) {
-    return feed->text.length - feed->given >= wanted + (hides(feed) ? LONGEST_CONTROL : 0);
+    return feed->text.length - feed->given >= wanted + (feed->decoding.is_1_1 ? LONGEST_CONTROL : 0);
+}
+
+void feed_has_marks(struct feed *feed) {
+    if (!feed->controls.has_marks) {
+        feed->controls.has_marks = true;
+        feed->marked(feed->context);
+    }
 }
 
 /* Gives so many bytes to libxml2. */
 static void give(struct feed *feed, char *bytes, size_t count) {
     const char *from = feed->text.data + feed->given;
     size_t left = feed->text.length - feed->given;
-    size_t hidden = 0;
-    for (; hidden < count && hides(feed); hidden++) {
-        bytes[hidden] = prolog_byte(&feed->prolog, feed->begin + feed->given + hidden, (struct span){from + hidden, left - hidden});
+    bool had_marks = feed->controls.has_marks;
+    if (feed->decoding.is_1_1) {
+        mark_controls(&feed->controls, feed->begin + feed->given, (struct span){from, left}, bytes, count);
+    } else {
+        memcpy(bytes, from, count);
     }
-    memcpy(bytes + hidden, from + hidden, count - hidden);
     feed->given += count;
+    if (feed->controls.has_marks && !had_marks) {
+        feed->marked(feed->context);
+    }
 }
 
 /* libxml2 looks ahead in what it gets at once, so it gets all that it asks for unless the document ends. */

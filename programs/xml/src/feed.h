@@ -1,7 +1,7 @@
 /* Gives a document's text to libxml2 as it reads, and knows the place of each offset in the text.
  *
  * The text is what `decoding.h` makes of the document, so libxml2 sees UTF-8 with a line feed for each line end, whatever the document's encoding. In XML 1.1
- * it does not see what `controls.h` hides. */
+ * it sees marks in the place of the references that `controls.h` finds. */
 #ifndef FEED_H
 #define FEED_H
 
@@ -47,7 +47,7 @@ struct feed {
     uint64_t choices_begin; /* where the counting began */
     uint64_t next;      /* the offset of the markup or the text that is being read */
     struct tag_scan scan;
-    struct prolog prolog; /* in a document of XML 1.1 */
+    struct control_scan controls; /* in a document of XML 1.1 */
     struct bytes room;  /* where the document's bytes are read */
     uint64_t long_at;   /* the offset of markup that is so long that its beginning is not kept, .. */
     struct place long_place;
@@ -56,6 +56,7 @@ struct feed {
     size_t kept;        /* the bytes that the receiver keeps, when it was asked last */
     void (*keep)(void *context);        /* is called before text that was read is forgotten */
     void (*before_read)(void *context); /* is called before more of the document is read, which may take long */
+    void (*marked)(void *context);      /* is called after libxml2 got the first mark for a control character */
     void *context;
 };
 
@@ -133,6 +134,9 @@ uint64_t feed_settle(struct feed *feed, uint64_t end);
 /* Whether more is held of the document than is allowed. Then the other one refuses it, and tells the place. */
 bool feed_is_over(const struct feed *feed);
 void feed_check_memory(struct feed *feed, struct place place);
+
+/* Notes that libxml2 gets a text with such marks. */
+void feed_has_marks(struct feed *feed);
 
 /* Whether a tag in the text has more attributes than are read. */
 bool has_too_many_attributes(struct span text);

@@ -1,6 +1,7 @@
 #include "judging.h"
 
 #include "finding.h"
+#include "schema_controls.h"
 #include "second_reading.h"
 #include "telling.h"
 
@@ -66,11 +67,12 @@ bool judge_open(struct judge *judge, struct shared *shared) {
     memset(judge, 0, sizeof *judge);
     judge->shared = shared;
     id_check_open(&judge->ids, shared->ids);
-    return rncv_schema_share(&shared->schema, &judge->schema) == RNCV_DONE;
+    return rncv_schema_share(&shared->schema, &judge->schema) == RNCV_DONE && rncv_schema_share(&shared->schema, &judge->asked) == RNCV_DONE;
 }
 
 void judge_close(struct judge *judge) {
     rncv_schema_free(&judge->schema);
+    rncv_schema_free(&judge->asked);
     declared_close(&judge->declared);
     scope_free(&judge->scope);
     call_room_free(&judge->room);
@@ -454,7 +456,7 @@ static OUT_OF_LINE void take_any_text(struct judging *judging, struct position p
     if (!judging->found.is_there) {
         keep_piece(judging, position, text, is_raw);
     }
-    int32_t status = library_text(&judge->schema, text);
+    int32_t status = library_any_text(&judge->schema, &judge->room, text);
     if (status != RNCV_DONE) {
         is_not_taken(judging, status);
     }
@@ -513,6 +515,20 @@ static size_t held(const void *context) {
     size_t text = 0;
     rncv_events_held(&judge->schema, &text);
     return id_check_held(&judge->ids) + scope_held(&judge->scope) + text;
+}
+
+/* Lets the library get other characters for control characters, unless the schema may tell them apart. */
+static const char *take_control(void *context) {
+    struct judging *judging = context;
+    struct judge *judge = judging->judge;
+    bool tells = false;
+    if (judge->controls == CONTROLS_NOT_KNOWN && !schema_controls_read(&judge->asked, &tells)) {
+        out_of_memory(judging);
+        return NULL;
+    }
+    judge->controls = judge->controls != CONTROLS_NOT_KNOWN ? judge->controls : tells ? CONTROLS_TOLD : CONTROLS_ONE;
+    judge->room.has_controls = true;
+    return judge->controls == CONTROLS_ONE ? NULL : "a control character by a reference, and the schema has a pattern or value that may be about it: outside the profile";
 }
 
 static void take_note(void *context, struct place place, const char *what) {
@@ -658,7 +674,7 @@ static void answer_all(struct judging *judging) {
 
 static void read_source(struct judging *judging, const struct byte_source *source) {
     const struct shared *shared = judging->judge->shared;
-    struct event_sink sink = {take_start, take_text, take_end, take_instruction, take_note, NULL, keep, held, judging, true, false, shared->depth,
+    struct event_sink sink = {take_start, take_text, take_end, take_instruction, take_note, NULL, keep, held, take_control, judging, true, false, shared->depth,
                               shared->memory};
     read_events(source, &sink, judging->fault);
 }
@@ -688,6 +704,7 @@ static void add_hints(struct judging *judging, const char *name) {
 /* Forgets what was kept of another document. */
 static void forget(struct judge *judge) {
     judge->found_number = 0;
+    judge->room.has_controls = false;
     scope_clear(&judge->scope);
     if (judge->text.failed) {
         bytes_free(&judge->text);

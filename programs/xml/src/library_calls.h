@@ -10,10 +10,15 @@
 struct call_room {
     rncv_attribute *attributes;
     size_t capacity;
+    bool has_controls;   /* texts and values may have control characters of XML 1.1 */
+    struct bytes values; /* those that have other characters in their place */
 };
 
 /* Makes room for so many attributes. False: out of memory. */
 OUT_OF_LINE bool call_room_grow(struct call_room *room, size_t count);
+
+/* Puts characters that the library takes in the place of the control characters in the values of the room. False: out of memory. */
+OUT_OF_LINE bool call_room_replace(struct call_room *room, size_t count);
 
 static inline const uint8_t *bytes_of_span(struct span span) {
     return (const uint8_t *)span.data;
@@ -29,7 +34,7 @@ static inline bool call_room_fill(struct call_room *room, const struct event_att
         *to = (rncv_attribute){bytes_of_span(from->name.uri), from->name.uri.length, bytes_of_span(from->name.local), from->name.local.length,
                                bytes_of_span(from->value), from->value.length};
     }
-    return true;
+    return !room->has_controls || call_room_replace(room, count);
 }
 
 /* Passes a start, with this number as its place. The status is that of rncv_events_start. */
@@ -62,6 +67,12 @@ static inline int32_t library_tag_options(rncv_schema *schema, const struct even
 static inline int32_t library_text(rncv_schema *schema, struct span text) {
     return rncv_events_text(schema, (const uint8_t *)text.data, text.length);
 }
+
+/* Puts such characters into the room for a text that has control characters; the text is then there, until the room is used again. False: out of memory. */
+bool call_room_text(struct call_room *room, struct span *text);
+
+/* Passes a text that may have control characters. RNCV_MEMORY: also if there is no room. */
+int32_t library_any_text(rncv_schema *schema, struct call_room *room, struct span text);
 
 void call_room_free(struct call_room *room);
 

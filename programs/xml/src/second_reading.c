@@ -334,9 +334,18 @@ static size_t held(const void *context) {
     return pass->held + (pass->depth == 0 ? 0 : element_held(&pass->second->elements[pass->depth - 1]));
 }
 
+/* The first reading has taken them. */
+static const char *take_control(void *context) {
+    const struct second_pass *pass = context;
+    pass->second->whole.room.has_controls = true;
+    pass->second->content.room.has_controls = true;
+    return NULL;
+}
+
 static void read_again(struct second_pass *pass, const struct shared *shared, const struct byte_source *source) {
     struct fault fault = NO_FAULT;
-    struct event_sink sink = {take_start, take_text, take_end, take_instruction, take_note, NULL, NULL, held, pass, true, false, shared->depth, shared->memory};
+    struct event_sink sink = {take_start, take_text, take_end, take_instruction, take_note, NULL, NULL, held, take_control, pass, true, false, shared->depth,
+                              shared->memory};
     pass->fault = &fault;
     read_events(source, &sink, &fault);
     fault_free(&fault);

@@ -334,8 +334,8 @@ static bool is_of_type(const struct words *words, const struct wanted_text *type
     struct bytes name = NO_BYTES;
     bytes_add(&name, type->name.data, type->name.length);
     const char *bare = bytes_text(&name);
-    bool is_allowed = name.failed || asked_allows(bare, text, RNCV_DATATYPES_XML_SCHEMA);
-    words->line->failed |= name.failed;
+    words->line->failed |= name.failed || !call_room_text(&words->judge->room, &text);
+    bool is_allowed = words->line->failed || asked_allows(bare, text, RNCV_DATATYPES_XML_SCHEMA);
     bytes_free(&name);
     return is_allowed;
 }

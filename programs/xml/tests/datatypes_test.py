@@ -220,5 +220,60 @@ class Spelled(InFolder):
             self.assertTrue(self.judge("--all", "s.rnc", "a.xml")[0].endswith(f": {wanted}\n"), document)
 
 
+TOLD = "a control character by a reference, and the schema has a pattern or value that may be about it: outside the profile"
+# What a text is, and whether `v` and a control character of XML 1.1 is one; None: the schema may tell the character from what the library gets instead.
+CONTROLS = (
+    ("text", True), ("xsd:string", True), ("xsd:token", True), ("xsd:anyURI", True), ('xsd:string { length = "2" }', True),
+    ('xsd:string { length = "1" }', False), ("list { token }", True), ("list { token, token }", False), ("xsd:NMTOKEN", False), ("xsd:ID", False), ('"v"', False), ('string "v"', False),
+    ('"v" | xsd:Name', False), ('xsd:string - xsd:string "v"', True), ("xsd:hexBinary", False), ("xsd:integer", False),
+    ('xsd:string { pattern = ".." }', True), ('xsd:string { pattern = "\\S*" }', True), ('xsd:string { pattern = "v\\w" }', False),
+    ('xsd:string { pattern = "v\\p{Cc}" }', True), ('xsd:string { pattern = "v\\p{IsBasicLatin}" }', True), ('xsd:string { pattern = "v[^\\P{L}]" }', False),
+    ('xsd:string { pattern = "[a-z]*" }', False), ('xsd:string { pattern = "[^!-~]*v?." }', True), ('xsd:string { pattern = "[a-z-[x]]." }', True),
+    ('xsd:string { pattern = "v[\\x{E0}-\\x{FF}]" }', False), ('xsd:string { pattern = "(v-)?.\\t?." }', True),
+    ('xsd:string { pattern = "v[ -\\x{FF}]" }', None), ('xsd:string { pattern = "v[\\x{9}-~]" }', None), ('xsd:string { pattern = "v[\\x{A}-~]" }', None),
+    ('xsd:string { pattern = "v[\\t-~]" }', None), ('xsd:string { pattern = "v[\\r-~]" }', None), ('xsd:string { pattern = "v[^\\--\\x{10FFFF}]" }', None),
+    ('xsd:string { pattern = "v\\x{7F}" }', None), ('xsd:string { length = "2" pattern = "[ -" ~ "\\x{FF}]*" }', None), ('"v\\x{7F}"', None),
+    ('xsd:token "\\x{7F}"', None), ('text | "\\x{7F}"', None),
+)
+
+
+class Controls(InFolder):
+    """Control characters of XML 1.1. The library has none, and gets another character for each."""
+
+    def test_the_verdicts(self):
+        for number, (form, wanted) in enumerate(CONTROLS):
+            self.write("c.rnc", f"element a {{ attribute x {{ {form} }} | ({form}) }}")
+            for code in (1, 11, 31):
+                self.write("x.xml", f'<?xml version="1.1"?><a x="v&#{code};"/>')
+                self.write("t.xml", f'<?xml version="1.1"?>\n<a>v&#{code};</a>')
+                lines = [json.loads(it) for it in self.run_in(RNCV_XML, "--format", "json", "c.rnc", "x.xml", "t.xml")[0].splitlines()]
+                verdict = "outside" if wanted is None else "valid" if wanted else "invalid"
+                with self.subTest((form, code)):
+                    self.assertEqual([it["verdict"] for it in lines], [verdict, verdict], lines)
+                    if wanted is None:
+                        self.assertEqual([(it["line"], it["column"], it["message"]) for it in lines], [(1, 22, TOLD), (2, 4, TOLD)])
+
+    def test_that_they_are_shown(self):
+        self.write("c.rnc", 'element a { attribute x { "v" }, element b { xsd:integer }* }')
+        self.write("d.xml", '<?xml version="1.1"?>\n<a x="&#1;&#x7F;&#31;">\n<b>1&#2;</b>\n <b>\n &#x0C;</b></a>')
+        self.assertEqual(self.run_in(RNCV_XML, "c.rnc", "d.xml"), (
+            'd.xml:2:1: invalid: attribute x of <a> is wrong ("\\x01\\x7f\\x1f"); expected "v"\n'
+            'd.xml:3:4: hint: the text of <b> is no xsd:integer ("1\\x02")\nd.xml:5:2: hint: the text of <b> is no xsd:integer ("\\x0c")\n', "", 1))
+
+    def test_pieces(self):
+        """A reference that a piece of the document cuts is read as another."""
+        self.write("c.rnc", 'element a { xsd:string { pattern = "x*.é*" }, attribute y { xsd:string { pattern = ".é" } }? }')
+        self.write("l.rnc", 'element a { "x" }')
+        names = []
+        for length in [*range(3_960, 4_010), *range(65_490, 65_540)]:
+            names.append(self.write(f"{length}.xml", f"<?xml version='1.1'?><a>{'x' * length}&#x000001;{'é' * 400}</a>").name)
+            names.append(self.write(f"s{length}.xml", f"<?xml version='1.1'?>{' ' * length}<a>&#1;é</a>").name)
+            names.append(self.write(f"y{length}.xml", f"<?xml version='1.1'?><a y='&#1;é'><!--{' ' * length}-->&#1;é</a>").name)
+        self.assertEqual(self.run_in(RNCV_XML, "--all", "c.rnc", *names), ("".join(f"{it}: valid\n" for it in names), "", 0))
+        for name in names[1::3]:
+            place = int(name[1:-4]) + 22 + 3
+            self.assertEqual(self.run_in(RNCV_XML, "l.rnc", name)[0], f'{name}:1:{place}: invalid: the text of <a> is wrong ("\\x01é"); expected "x"\n')
+
+
 if __name__ == "__main__":
     unittest.main(verbosity=1)
