@@ -14,7 +14,7 @@ enum { LONGEST_CONTROL = 64 /* bytes of a reference that is found; it may have z
 
 /* A search for references in a text, and how far it was handed to libxml2. Set it to zero before the first byte of a document or of a text of its DTD. */
 struct control_scan {
-    char kind;       /* what is being read: a quote for a literal of the DTD, `-` for a comment, `?` for an instruction, `[` for a section, or 0 for none of these */
+    char kind;       /* what is being read: the quote of a literal of a DTD, `-` of a comment, `?` of an instruction, `[` of a section; 0: none of these */
     bool is_content; /* this is the root or something behind it, or the text of an entity for content: no literals, but CDATA sections */
     bool has_marks;  /* a reference was found */
     char letter;     /* of the last one */
@@ -28,7 +28,7 @@ enum mark_part { MARK_NONE, MARK_BEGUN, MARK_NAMED };
 /* Whether the code is that of such a character. */
 bool is_control(long code);
 
-/* Copies `count` bytes of the text, with marks in the place of references. The text goes on up to the end of the document, or for LONGEST_CONTROL bytes more. */
+/* Copies `count` bytes of the text, with marks in the place of references. The text goes on for LONGEST_CONTROL bytes more, unless the document ends. */
 void mark_controls(struct control_scan *scan, uint64_t offset, struct span text, char *to, size_t count);
 
 /* Writes marks into a text of a DTD, or into the text of an entity for content. Returns whether there are any. */

@@ -528,7 +528,9 @@ static const char *take_control(void *context) {
     }
     judge->controls = judge->controls != CONTROLS_NOT_KNOWN ? judge->controls : tells ? CONTROLS_TOLD : CONTROLS_ONE;
     judge->room.has_controls = true;
-    return judge->controls == CONTROLS_ONE ? NULL : "a control character by a reference, and the schema has a pattern or value that may be about it: outside the profile";
+    return judge->controls == CONTROLS_ONE
+               ? NULL
+               : "a control character by a reference, and the schema has a pattern or value that may be about it: outside the profile";
 }
 
 static void take_note(void *context, struct place place, const char *what) {

@@ -66,6 +66,7 @@ static const char *const documents[] = {
     "<a><b></a>",
     "<a x='1' i='p' xmlns:n='u'><b r='q'/><b r='p'/></a>",
     "<a x='1' i='-'/>",
+    "<?xml version='1.1'?><!DOCTYPE a [<!ENTITY e '&#2;'><!ENTITY t '&#38;#9;'>]><a x='1&e;&#1;' xmlns:n='u&t;'>&e;<b/>&#3;</a>",
     "<a x='2' xmlns:n='u'><b s='1'>text</b></a>",
 };
 
