@@ -13,6 +13,7 @@
 enum {
     MOST_LEVELS = 500,      /* entities in one another: libxml2 calls itself for an entity in an entity, and goes some 510 levels down */
     MOST_DEFAULTS = 1000,   /* declarations of namespaces by default, or of attributes with a default for one element */
+    FEW_ELEMENTS = 64,      /* with defaults, for which the table of libxml2 is large enough */
     MOST_LOADED = 67108864, /* bytes of external entities */
     MOST_WRITTEN = 67108864, /* bytes of texts that are written for libxml2 */
     REFERENCE_COST = 256,  /* of a reference, in bytes */
@@ -262,6 +263,30 @@ static bool is_first(struct declarations *declarations, const xmlChar *element, 
     return true;
 }
 
+/* Adds what is kept of an element to a table. Without memory the table stays without it. */
+static void add_kept(void *kept, void *table, const xmlChar *local, const xmlChar *prefix, const xmlChar *unused) {
+    (void)unused;
+    (void)xmlHashAddEntry2(table, local, prefix, kept);
+}
+
+/* Moves the elements that have defaults to a larger table, since libxml2 has them in one that never grows. */
+static void grow_table(struct declarations *declarations) {
+    xmlParserCtxtPtr parser = declarations->feed->parser;
+    int size = xmlHashSize(parser->attsDefault);
+    xmlHashTablePtr larger = xmlHashCreateDict(8 * size, parser->dict);
+    if (larger != NULL) {
+        xmlHashScanFull(parser->attsDefault, add_kept, larger);
+    }
+    if (larger == NULL || xmlHashSize(larger) != size) {
+        xmlHashFree(larger, NULL);
+        out_of_memory(declarations);
+        return;
+    }
+    xmlHashFree(parser->attsDefault, NULL);
+    parser->attsDefault = larger;
+    declarations->table_size = size;
+}
+
 /* Counts the defaults of an element. libxml2 compares each pair of its attributes. */
 static void count_default(struct declarations *declarations, const xmlChar *element) {
     uintptr_t count = (uintptr_t)xmlHashLookup(declarations->counts, element) + 1;
@@ -269,6 +294,8 @@ static void count_default(struct declarations *declarations, const xmlChar *elem
         out_of_memory(declarations);
     } else if (count > MOST_DEFAULTS) {
         refuse(declarations, "more than 1,000 declarations of attributes with defaults for one element: outside the profile");
+    } else if (xmlHashSize(declarations->feed->parser->attsDefault) >= 8 * declarations->table_size + FEW_ELEMENTS) {
+        grow_table(declarations);
     }
 }
 

@@ -53,6 +53,7 @@ struct declarations {
     size_t default_count;
     size_t default_capacity;
     xmlHashTablePtr counts; /* how many attributes with defaults an element has, and which attributes it has */
+    int table_size;         /* how many elements had defaults when libxml2's table of them was last made larger */
     xmlEntity nothing;      /* is read instead of a parameter entity that is not loaded, or that has blanks alone */
     xmlChar *ends;          /* the ends of texts, at which it is read in turn */
     size_t next_end;
