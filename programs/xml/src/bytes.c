@@ -29,6 +29,21 @@ bool bytes_grow(struct bytes *bytes, size_t more) {
     return true;
 }
 
+size_t utf_8_of(unsigned code, char *bytes) {
+    static const unsigned char leads[] = {0, 0, 0xC0, 0xE0, 0xF0};
+    size_t length = code < 0x80 ? 1 : code < 0x800 ? 2 : code < 0x10000 ? 3 : 4;
+    for (size_t at = length; at-- > 1; code >>= 6) {
+        bytes[at] = (char)(0x80 | (code & 0x3F));
+    }
+    bytes[0] = (char)(leads[length] | code);
+    return length;
+}
+
+void bytes_add_character(struct bytes *bytes, unsigned code) {
+    char character[4];
+    bytes_add(bytes, character, utf_8_of(code, character));
+}
+
 void bytes_format(struct bytes *bytes, const char *format, ...) {
     va_list values;
     va_start(values, format);

@@ -49,6 +49,9 @@ static inline void bytes_add_byte(struct bytes *bytes, char byte) {
     }
 }
 
+/* Writes a character in UTF-8, of at most four bytes. Returns how many it has. */
+size_t utf_8_of(unsigned code, char *bytes);
+void bytes_add_character(struct bytes *bytes, unsigned code);
 void bytes_format(struct bytes *bytes, const char *format, ...) __attribute__((format(printf, 2, 3)));
 /* Adds a number with commas between its thousands. */
 void bytes_add_count(struct bytes *bytes, unsigned long long count);

@@ -166,18 +166,13 @@ bool is_text(const char *bytes, size_t length) {
     return is_good;
 }
 
-static size_t utf_8_of(unsigned code, char *bytes) {
-    if (code < 0x80) {
-        bytes[0] = code == '\n' ? (char)HIDDEN_FEED : code == '\r' ? (char)HIDDEN_RETURN : (char)code;
+/* A character that an escape stands for, in UTF-8 but for line ends. */
+static size_t shown_of(unsigned code, char *bytes) {
+    if (code == '\n' || code == '\r') {
+        bytes[0] = code == '\n' ? (char)HIDDEN_FEED : (char)HIDDEN_RETURN;
         return 1;
     }
-    size_t length = code < 0x800 ? 2 : code < 0x10000 ? 3 : 4;
-    static const unsigned char leads[] = {0, 0, 0xC0, 0xE0, 0xF0};
-    for (size_t at = length; at-- > 1; code >>= 6) {
-        bytes[at] = (char)(0x80 | (code & 0x3F));
-    }
-    bytes[0] = (char)(leads[length] | code);
-    return length;
+    return utf_8_of(code, bytes);
 }
 
 /* Replaces the escapes, and notes where each byte comes from. */
@@ -190,7 +185,7 @@ static bool replace_escapes(struct tokens *tokens, const char *bytes, size_t len
         unsigned code;
         char shown[4] = {bytes[at]};
         size_t size = bytes[at] == '\\' ? escape_at(bytes + at, length - at, &code) : 0;
-        size_t shown_size = size > 0 && code > 0 && code <= 0x10FFFF ? utf_8_of(code, shown) : 1;
+        size_t shown_size = size > 0 && code > 0 && code <= 0x10FFFF ? shown_of(code, shown) : 1;
         for (size_t byte = 0; byte < shown_size; byte++) {
             tokens->origins[tokens->text.length + byte] = at;
         }
