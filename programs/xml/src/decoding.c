@@ -3,7 +3,7 @@
 #include <string.h>
 
 enum {
-    DECLARATION_BYTES = 65536,
+    FEWEST_BYTES = 4,  /* that show how characters are written */
     PLAIN_BYTES = 128, /* that are looked at together */
     DELETE = 0x7F,     /* the first of the control characters that end before .. */
     FIRST_BEHIND_CONTROLS = 0xA0,
@@ -145,7 +145,8 @@ static bool may_begin(const struct bytes *text) {
 /* Finds the encoding in the first bytes, if they are enough. */
 static void find_encoding(struct decoding *decoding, bool is_end) {
     struct bytes text = NO_BYTES;
-    if (decoding->first.length < 4 && !is_end) {
+    bool is_enough = decoding->first.length >= FEWEST_BYTES && decoding->first.length >= decoding->wanted;
+    if (!is_enough && !is_end) {
         return;
     }
     size_t mark = mark_of(&decoding->first, &decoding->family);
@@ -159,8 +160,8 @@ static void find_encoding(struct decoding *decoding, bool is_end) {
             decoding->is_1_1 |= is_1_1(&declaration);
             decoding->dropped = decoding->is_external ? declaration.length : 0;
             bytes_cut_front(&decoding->first, mark);
-        } else if (decoding->first.length > DECLARATION_BYTES) {
-            refuse(decoding, FAULT_OUTSIDE, "an XML declaration of more than 65,536 bytes: outside the profile");
+        } else {
+            decoding->wanted = 2 * decoding->first.length; /* so that the time does not grow with its square */
         }
     }
     bytes_free(&text);

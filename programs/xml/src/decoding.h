@@ -23,6 +23,7 @@ struct decoding {
     bool is_1_1;      /* its rules are those of XML 1.1. For an external entity, this is set at first if the document has them */
     size_t dropped;   /* how many bytes of UTF-8 are still to be dropped for that */
     struct bytes first; /* the first bytes, until they show the encoding */
+    size_t wanted;      /* how many of them to wait for */
     bool is_known;
     enum family family;
     struct transcoder transcoder;
@@ -34,7 +35,7 @@ struct decoding {
     struct fault fault;   /* why nothing comes after the text that was given. Its place is the end of that text */
 };
 
-#define NO_DECODING {false, false, 0, NO_BYTES, false, FAMILY_BYTES, NO_TRANSCODER, false, NO_BYTES, {0}, 0, false, NO_FAULT}
+#define NO_DECODING {false, false, 0, NO_BYTES, 0, false, FAMILY_BYTES, NO_TRANSCODER, false, NO_BYTES, {0}, 0, false, NO_FAULT}
 
 /* Adds the characters of the bytes to the text. Once there is a fault, no more are added. */
 void decoding_take(struct decoding *decoding, const char *bytes, size_t length, struct bytes *text);

@@ -29,10 +29,16 @@ bool is_limit(parser_error *error) {
     return error->domain == XML_FROM_PARSER && (is_deep || error->code == XML_ERR_NAME_TOO_LONG || error->code == XML_ERR_URI_FRAGMENT);
 }
 
+/* Whether a literal is too long, and not a name. */
+static bool is_of_literal(const parser_error *error) {
+    return strcmp(known(error->str1), "SystemLiteral") == 0 || strcmp(known(error->str1), "Public ID") == 0;
+}
+
 const char *limit_words(parser_error *error) {
     switch (error->code) {
     case XML_ERR_NAME_TOO_LONG:
-        return "over a limit of this program: a name has more than 10,000,000 bytes";
+        return is_of_literal(error) ? "over a limit of this program: a literal has more than 10,000,000 bytes"
+                                    : "over a limit of this program: a name has more than 10,000,000 bytes";
     case XML_ERR_URI_FRAGMENT:
         return "a system identifier with a fragment: outside the profile";
     default:

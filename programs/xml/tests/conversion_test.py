@@ -506,6 +506,11 @@ class Costs(Converted):
             self.assertLess(processor_seconds() - begun, 3, begin)
             self.assertLess(peak, most, begin)
 
+    def test_long_literals(self):
+        for begin in ("SYSTEM '", "PUBLIC '"):
+            found = self.fault(f"<!DOCTYPE a [<!ENTITY e {begin}" + "x" * 10_000_001)[2]
+            self.assertEqual(found, "over a limit of this program: a literal has more than 10,000,000 bytes", begin)
+
     def test_markup_that_does_not_end(self):
         for begin, unit in (('<a x="', " "), ("<a ", " "), ("<b", "b"), ("<!DOCTYPE a [<!ENTITY e '", "x"), ("<a>&", "e"), ("<a><!--", "x\n")):
             begun = processor_seconds()
