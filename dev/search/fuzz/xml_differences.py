@@ -9,7 +9,8 @@ import re
 OUTSIDE = (
     ("unread", r"is not declared in the document itself|behind a parameter entity|external (parameter )?entity .* is not loaded|not loaded"),
     ("in-declarations", r"parameter entity inside a declaration"),
-    ("encodings", r"the encoding '.*' is not served|in different ways"),
+    ("encodings", r"the encoding '.*' is not served"),
+    ("tables", r"in different ways"),
     ("limits", r"more than [0-9,]+|over a limit|too many|amplification|malformed P10"),
     ("version-1.1", r"\b1\.1\b"),
     ("references", r"refers to a tab"),

@@ -337,7 +337,7 @@ static void add_bytes(struct decoding *decoding, const char *bytes, size_t lengt
     if (decoded == DECODED_NO_MEMORY) {
         out_of_memory(decoding);
     } else if (decoded == DECODED_DOUBTFUL) {
-        refuse(decoding, FAULT_OUTSIDE, "a byte that programs read in different ways in this encoding: outside the profile");
+        refuse(decoding, FAULT_OUTSIDE, "a character that programs read in different ways in this encoding: outside the profile");
     }
 }
 

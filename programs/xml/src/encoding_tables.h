@@ -1,20 +1,27 @@
-/* The tables of encodings: which one a name means, and where those of iconv have other characters. */
+/* The tables of encodings: which one a name means, and where those of iconv have other characters than those of Java, which jing reads. */
 #ifndef ENCODING_TABLES_H
 #define ENCODING_TABLES_H
 
 #include <stdbool.h>
+#include <stddef.h>
 
-/* A byte of a table of single bytes whose character is not the one of iconv. */
+/* Numbers of tables that are not of IBM or Microsoft, which have less digits. */
+enum { BIG5 = 1000000, EUC_JP, GB18030, GBK, ISO_2022_JP, SHIFT_JIS };
+
+/* Codes of a table whose characters are not those of iconv. A code is a number that has the bytes of a character as its digits. The codes are those from the
+ * first to the last one whose last byte is from that of the first to that of the last one, and is not 0x7F. */
 struct correction {
     unsigned number; /* of the table */
-    char byte;
-    const char *character; /* in UTF-8 */
+    unsigned first;
+    unsigned last;
+    unsigned character; /* of the first code. The others have those behind it. 0: programs read the codes in different ways */
 };
 
-/* The name for iconv of the table that an encoding has: the name itself, unless iconv does not know it or has another table for it. */
+/* The name for iconv of the table that an encoding has: the name itself, unless iconv does not know it, has another table for it, or the table has a number
+ * above. */
 const char *encoding_table(const char *encoding);
 
-/* The number in a name of a table of IBM or Microsoft; 0: it is no such name. */
+/* The number of a table above, or in a name of a table of IBM or Microsoft; 0: it is no such name. */
 unsigned encoding_number(const char *table);
 
 /* Whether iconv has the characters that other programs have in the table, but for corrections. */
@@ -23,7 +30,19 @@ bool encoding_is_common(unsigned number);
 /* Whether iconv composes letters of the table with the marks behind them. A document has them apart, and so have other programs. */
 bool encoding_is_composed(unsigned number);
 
-/* The first correction of the table with this number; NULL: there is none. The others follow, and then one with another number. */
+/* Whether iconv reads the dash of JIS X 0208 as a bar, U+2015. */
+bool encoding_has_bar(unsigned number);
+
+/* How many bytes the character at the start of the bytes has, if the table has corrections. It may be more than there are. */
+size_t encoding_width(unsigned number, const char *bytes, size_t length);
+
+/* The first correction of the table with this number; NULL: there is none. The others follow in the order of their codes, and then one with another number. */
 const struct correction *encoding_corrections(unsigned number);
+
+/* The correction that has the code, or NULL. */
+const struct correction *encoding_correction(const struct correction *corrections, unsigned code);
+
+/* The character of a code of the correction; 0: programs read it in different ways. */
+unsigned encoding_corrected(const struct correction *correction, unsigned code);
 
 #endif

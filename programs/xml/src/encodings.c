@@ -7,13 +7,23 @@
 
 enum {
     ROOM = 16384,
+    MOST_TOGETHER = 4096,     /* bytes that iconv gets at once. Their characters have room */
     LONGEST_CHARACTER = 64,
-    OPEN_SYSTEMS = 1047 /* the number of the table of EBCDIC whose line feed is a line feed */
+    OPEN_SYSTEMS = 1047,      /* the number of the table of EBCDIC whose line feed is a line feed */
+    FIRST_OF_KATAKANA = 0x21, /* of the half-width letters of JIS X 0201 in seven bits */
+    LAST_OF_KATAKANA = 0x5F,
+    KATAKANA = 0xFF61         /* the first one in Unicode */
 };
 
 /* The two bytes of EBCDIC, which iconv reads as a next line and as a line feed. */
 static const char NEXT_LINE = '\x15';
 static const char LINE_FEED = '\x25';
+
+static const char NO_CHARACTER = '\xFF'; /* no UTF-8 has it */
+
+static const char ESCAPE = '\x1B';
+static const char TO_KATAKANA[] = "\x1B(I";
+enum { LENGTH_TO_KATAKANA = sizeof TO_KATAKANA - 1 };
 
 /* Writes what the byte alone is in UTF-8 to `text`, and returns the length. 0: the byte is no character. */
 static size_t alone(iconv_t descriptor, char byte, char *text, size_t size) {
@@ -48,16 +58,6 @@ static bool keeps_ascii(struct transcoder *transcoder) {
     return true;
 }
 
-/* Whether the name is one of Shift_JIS. Java and browsers read its bytes of `\` and `~` as these, so documents mean them. Tables of JIS X 0201 do not. */
-static bool is_shift_jis(const char *encoding) {
-    static const char *const names[] = {"shift_jis", "shift-jis", "sjis", "ms_kanji", "csshiftjis"};
-    bool is_one = false;
-    for (size_t at = 0; at < sizeof names / sizeof *names && !is_one; at++) {
-        is_one = strcasecmp(encoding, names[at]) == 0;
-    }
-    return is_one;
-}
-
 /* Opens iconv for the table. A number may have other digits there, as `IBM037` for `IBM-37` and `IBM1140` for `CP01140`. */
 static iconv_t opened(const char *table, unsigned number) {
     char numbered[16];
@@ -78,9 +78,9 @@ bool transcoder_open_any(struct transcoder *transcoder, const char *encoding) {
         return false;
     }
     transcoder->descriptor = opened(table, number);
+    transcoder->number = number;
     transcoder->corrections = encoding_corrections(number);
     transcoder->composes = encoding_is_composed(number);
-    transcoder->is_open_systems = number == OPEN_SYSTEMS;
     return transcoder->descriptor != (iconv_t)-1;
 }
 
@@ -92,7 +92,6 @@ bool transcoder_open(struct transcoder *transcoder, const char *encoding) {
         transcoder_close(transcoder);
         return false;
     }
-    transcoder->is_shift_jis = is_shift_jis(encoding);
     return true;
 }
 
@@ -107,28 +106,46 @@ static void set_line_ends(const struct transcoder *transcoder, char *bytes, size
     for (size_t at = 0; at < length && transcoder->is_ebcdic; at++) {
         if (bytes[at] == NEXT_LINE) {
             bytes[at] = LINE_FEED;
-        } else if (bytes[at] == LINE_FEED && transcoder->is_open_systems) {
+        } else if (bytes[at] == LINE_FEED && transcoder->number == OPEN_SYSTEMS) {
             bytes[at] = NEXT_LINE;
         }
     }
 }
 
-/* The correction for a byte, or NULL. */
-static const struct correction *correction_of(const struct transcoder *transcoder, char byte) {
-    const struct correction *found = transcoder->corrections;
-    while (found != NULL && found->byte != byte) {
-        found = found[1].number == found->number ? found + 1 : NULL;
+/* The code of the character at the start of the bytes. */
+static unsigned code_of(const char *bytes, size_t width) {
+    unsigned code = 0;
+    for (size_t at = 0; at < width; at++) {
+        code = code << 8 | (unsigned char)bytes[at];
     }
-    return found;
+    return code;
 }
 
-/* How many bytes from here on have no correction. */
+/* How many bytes from here on have no correction, at most. The last character may not be whole. */
 static size_t uncorrected(const struct transcoder *transcoder, const char *from, size_t left) {
-    size_t length = transcoder->corrections == NULL ? left : 0;
-    while (length < left && correction_of(transcoder, from[length]) == NULL) {
-        length++;
+    size_t most = left < MOST_TOGETHER ? left : MOST_TOGETHER;
+    size_t length = transcoder->corrections == NULL ? most : 0;
+    while (length < most) {
+        size_t width = encoding_width(transcoder->number, from + length, left - length);
+        if (width <= left - length && encoding_correction(transcoder->corrections, code_of(from + length, width)) != NULL) {
+            return length;
+        }
+        length += width;
     }
-    return length;
+    return length < left ? length : left;
+}
+
+/* How many bytes are before the next escape sequence that iconv does not know, at most. An escape is in no longer character. */
+static size_t before_katakana(const char *from, size_t left) {
+    const char *found = memchr(from, ESCAPE, left);
+    while (found != NULL) {
+        size_t rest = left - (size_t)(found - from);
+        if (rest >= LENGTH_TO_KATAKANA && memcmp(found, TO_KATAKANA, LENGTH_TO_KATAKANA) == 0) {
+            return left - rest;
+        }
+        found = memchr(found + 1, ESCAPE, rest - 1);
+    }
+    return left;
 }
 
 /* Calls iconv once. It takes some of the bytes, from `from` on. */
@@ -153,20 +170,73 @@ static size_t uncomposed(const char *from, size_t left) {
     return length == 0 ? 1 : length;
 }
 
-/* Takes some of the bytes: a byte with a correction, or what iconv takes before the next one. Answers as iconv does. */
-static size_t some(struct transcoder *transcoder, char **from, size_t *left, struct bytes *text) {
-    size_t length = uncorrected(transcoder, *from, *left);
-    if (length == 0) {
-        bytes_add_text(text, correction_of(transcoder, **from)->character);
-        ++*from;
-        --*left;
+/* Takes a character that has a correction. Returns 0, or 1: programs read it in different ways. */
+static size_t take_corrected(const struct transcoder *transcoder, char **from, size_t *left, struct bytes *text) {
+    size_t width = encoding_width(transcoder->number, *from, *left);
+    unsigned code = code_of(*from, width);
+    unsigned character = encoding_corrected(encoding_correction(transcoder->corrections, code), code);
+    *from += width;
+    *left -= width;
+    if (character == 0) {
+        return 1;
+    }
+    bytes_add_character(text, character);
+    return 0;
+}
+
+/* Takes a half-width letter, or their end at an escape. Returns 0, or 1: programs read the byte in different ways. */
+static size_t take_katakana(struct transcoder *transcoder, char **from, size_t *left, struct bytes *text) {
+    unsigned byte = (unsigned char)**from;
+    transcoder->is_katakana = **from != ESCAPE;
+    if (!transcoder->is_katakana) {
         return 0;
     }
+    ++*from;
+    --*left;
+    if (byte > LAST_OF_KATAKANA) {
+        bytes_add_byte(text, NO_CHARACTER);
+    } else if (byte >= FIRST_OF_KATAKANA) {
+        bytes_add_character(text, KATAKANA + byte - FIRST_OF_KATAKANA);
+    }
+    return byte < FIRST_OF_KATAKANA;
+}
+
+/* Takes some of the bytes, by iconv. The last character of `length` bytes may not be whole: it is taken with the bytes behind it. */
+static size_t take_by_iconv(struct transcoder *transcoder, char **from, size_t *left, size_t length, struct bytes *text) {
     length = transcoder->composes ? uncomposed(*from, length) : length;
+    size_t given = length;
     size_t rest = *left - length;
     size_t answer = by_iconv(transcoder, from, &length, text);
     *left = rest + length;
+    if (answer == (size_t)-1 && errno == EINVAL && rest > 0 && length < given) {
+        return 0;
+    }
     return answer == 0 && transcoder->composes ? by_iconv(transcoder, NULL, NULL, text) : answer;
+}
+
+/* Takes some of the bytes: a character that iconv does not read so, or what iconv takes before the next one. Answers as iconv does. */
+static size_t some(struct transcoder *transcoder, char **from, size_t *left, struct bytes *text) {
+    if (transcoder->is_katakana) {
+        return take_katakana(transcoder, from, left, text);
+    }
+    size_t length = uncorrected(transcoder, *from, *left);
+    if (length == 0) {
+        return take_corrected(transcoder, from, left, text);
+    }
+    length = transcoder->number == ISO_2022_JP ? before_katakana(*from, length) : length;
+    if (length == 0) {
+        transcoder->is_katakana = true;
+        *from += LENGTH_TO_KATAKANA;
+        *left -= LENGTH_TO_KATAKANA;
+        return 0;
+    }
+    return take_by_iconv(transcoder, from, left, length, text);
+}
+
+/* Whether other programs read the bytes, which iconv does not: in GBK as private use, or as characters of later editions. */
+static bool is_read_elsewhere(const struct transcoder *transcoder, const char *from, size_t left) {
+    unsigned char last = left > 1 ? (unsigned char)from[1] : 0;
+    return transcoder->number == GBK && encoding_width(GBK, from, left) == 2 && last >= 0x40 && last != 0x7F && last != 0xFF;
 }
 
 /* The length of a yen sign or an overline at the start of the text, which replace `\` and `~` in some tables and not in others; 0: it is another character. */
@@ -177,7 +247,7 @@ static size_t replacing(struct span text) {
     return text.length >= 3 && memcmp(text.data, "\xE2\x80\xBE", 3) == 0 ? 3 : 0;
 }
 
-/* Puts `\` and `~` in their places, from `begin` on. In Shift_JIS nothing else gives these two characters. */
+/* Puts `\` and `~` in their places, from `begin` on. In Shift_JIS nothing else gives these two characters, and Java and browsers read them so. */
 static void put_back(struct bytes *text, size_t begin) {
     size_t to = begin;
     for (size_t at = begin; at < text->length; to++) {
@@ -188,16 +258,28 @@ static void put_back(struct bytes *text, size_t begin) {
     text->length = to;
 }
 
+/* Puts a dash, U+2014, for each bar, from `begin` on. Nothing else gives a bar in these tables. */
+static void put_dashes(struct bytes *text, size_t begin) {
+    for (size_t at = begin; at + 2 < text->length; at++) {
+        if (memcmp(text->data + at, "\xE2\x80\x95", 3) == 0) {
+            text->data[at + 2] = '\x94';
+        }
+    }
+}
+
 /* What is to be said of the text from `begin` on. */
 static enum decoded decoded_from(const struct transcoder *transcoder, struct bytes *text, size_t begin) {
     bool is_doubtful = false;
     if (text->failed) {
         return DECODED_NO_MEMORY;
     }
+    if (encoding_has_bar(transcoder->number)) {
+        put_dashes(text, begin);
+    }
     if (!transcoder->has_doubts) {
         return DECODED;
     }
-    if (transcoder->is_shift_jis) {
+    if (transcoder->number == SHIFT_JIS) {
         put_back(text, begin);
         return DECODED;
     }
@@ -205,6 +287,32 @@ static enum decoded decoded_from(const struct transcoder *transcoder, struct byt
         is_doubtful = replacing((struct span){text->data + at, text->length - at}) > 0;
     }
     return is_doubtful ? DECODED_DOUBTFUL : DECODED;
+}
+
+/* Takes the bytes, but for the first ones of a character whose other bytes are not there. */
+static enum decoded take_all(struct transcoder *transcoder, char **from, size_t *left, struct bytes *text) {
+    while (*left > 0) {
+        size_t answer = some(transcoder, from, left, text);
+        if (answer != (size_t)-1 && answer > 0) {
+            return DECODED_DOUBTFUL;
+        }
+        if (answer != (size_t)-1 || errno == E2BIG) {
+            continue;
+        }
+        if (errno == ENOMEM) {
+            return DECODED_NO_MEMORY;
+        }
+        if (errno == EINVAL && *left < LONGEST_CHARACTER) {
+            break;
+        }
+        if (is_read_elsewhere(transcoder, *from, *left)) {
+            return DECODED_DOUBTFUL;
+        }
+        bytes_add_byte(text, NO_CHARACTER);
+        ++*from;
+        --*left;
+    }
+    return DECODED;
 }
 
 enum decoded transcoder_add(struct transcoder *transcoder, const char *bytes, size_t length, struct bytes *text) {
@@ -216,26 +324,10 @@ enum decoded transcoder_add(struct transcoder *transcoder, const char *bytes, si
     char *from = transcoder->waiting.data;
     size_t left = transcoder->waiting.length;
     set_line_ends(transcoder, from + left - length, length);
-    while (left > 0) {
-        size_t answer = some(transcoder, &from, &left, text);
-        if (answer != (size_t)-1 && answer > 0) {
-            return DECODED_DOUBTFUL;
-        }
-        if (answer != (size_t)-1 || errno == E2BIG) {
-            continue;
-        }
-        if (errno == ENOMEM) {
-            return DECODED_NO_MEMORY;
-        }
-        if (errno == EINVAL && left < LONGEST_CHARACTER) {
-            break;
-        }
-        bytes_add_byte(text, '\xFF');
-        from++;
-        left--;
-    }
+    enum decoded taken = take_all(transcoder, &from, &left, text);
     bytes_cut_front(&transcoder->waiting, transcoder->waiting.length - left);
-    return decoded_from(transcoder, text, begin);
+    enum decoded decoded = decoded_from(transcoder, text, begin);
+    return taken == DECODED ? decoded : taken;
 }
 
 enum decoded transcoder_end(struct transcoder *transcoder, struct bytes *text) {
@@ -245,7 +337,7 @@ enum decoded transcoder_end(struct transcoder *transcoder, struct bytes *text) {
         return DECODED_NO_MEMORY;
     }
     if (transcoder->waiting.length > 0 || answer != 0) {
-        bytes_add_byte(text, '\xFF');
+        bytes_add_byte(text, NO_CHARACTER);
     }
     return decoded_from(transcoder, text, begin);
 }

@@ -16,15 +16,15 @@ enum decoded {
 struct transcoder {
     iconv_t descriptor;
     struct bytes waiting;                 /* the first bytes of a character whose other bytes have not come yet */
+    unsigned number;                      /* of the table. 0: it has none */
     const struct correction *corrections; /* of the table. NULL: there are none */
     bool composes;                        /* whether iconv would compose letters with the marks behind them */
     bool has_doubts;                      /* whether the byte of `\` or of `~` is another character in this table */
-    bool is_shift_jis;                    /* it is, and is read as `\` or `~` */
-    bool is_ebcdic;                       /* its two bytes for line feeds and next lines are line feeds, as in Java, .. */
-    bool is_open_systems;                 /* .. or the first one is, and the second one is a next line */
+    bool is_ebcdic;                       /* its bytes for line feeds and next lines are as in Java: both are line feeds, but for one table */
+    bool is_katakana;                     /* the bytes that follow are half-width letters, up to an escape */
 };
 
-#define NO_TRANSCODER {(iconv_t)-1, NO_BYTES, NULL, false, false, false, false, false}
+#define NO_TRANSCODER {(iconv_t)-1, NO_BYTES, 0, NULL, false, false, false, false}
 
 /* Opens the transcoder. False: the encoding is not served. It is served if iconv knows it and ASCII is itself in it, so that the declaration was read
  * as it is meant. The bytes of `\` and `~` may be other characters. */

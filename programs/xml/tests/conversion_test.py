@@ -160,7 +160,10 @@ class Encodings(Converted):
         declared = '<?xml version="1.0" encoding="{}"?><a>'
         for text in (b"\\", b"~", b"x" * 100_000 + b"\\"):
             found = self.fault(declared.format("SHIFT_JISX0213").encode() + text + b"</a>")[2]
-            self.assertEqual(found, "a byte that programs read in different ways in this encoding: outside the profile")
+            self.assertEqual(found, "a character that programs read in different ways in this encoding: outside the profile")
+        for name, text in (("Big5", b"\xc8\x40"), ("GBK", b"\xfe\x50"), ("GB18030", b"\xfe\x51"), ("GB18030", b"\x82\x35\x90\x37")):
+            found = self.fault(declared.format(name).encode() + text + b"</a>")[2]
+            self.assertEqual(found, "a character that programs read in different ways in this encoding: outside the profile", name)
         for name in ("Shift_JIS", "shift-jis", "SJIS", "MS_Kanji", "csShiftJIS"):
             given, wanted = b"\x83\x5c\\~\xb1" * 20_000, "\u30bd\\\\~\uff71" * 20_000
             out = self.pyx(declared.format(name).encode() + given + b"</a>").decode()
