@@ -1,6 +1,3 @@
-mod AsBox
-mod Crossing
 mod ProfileCompiled
 mod WrittenTexts
 mod RefusedNames
-mod Values

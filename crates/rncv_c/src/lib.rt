@@ -13,28 +13,22 @@ ghost use Rattle.rng_model.specs.documents.PyxTrees.{a_string, an_end};
 ghost use Rattle.element_events.specs.views.Told.{call};
 ghost use Rattle.rncv_validator.specs.views.Validators.{IsOneFor, IsOneForWith};
 ghost use Rattle.rncv_c_values.specs.views.Attributes.{AreTexts, IsTextName, attribute_of, name_in, start_of};
-ghost use Rattle.rncv_c.specs.views.Calls.{HasBegun, HasEnded, HasTaken, IsInvalidSince};
+ghost use Rattle.rncv_c_handles.specs.views.Calls.{HasBegun, HasEnded, HasTaken, IsInvalidSince};
 ghost use Rattle.rncv_c_values.specs.views.Datatypes.{set_of};
-ghost use Rattle.rncv_c.specs.views.Events as of_events;
-ghost use Rattle.rncv_c.specs.views.Expected.{HoldsNoDocument, IsExpectationIn, IsTagText};
-ghost use Rattle.rncv_c.specs.views.Options.{HasNoOptions, IsOfTexts, IsOptionsText, StillHasTaken, beginning_in};
-ghost use Rattle.rncv_c.specs.views.Reasons.{IsHeldBy, IsReplacementText, TellsEndReason, TellsFedReason, TellsReason, TellsStartReason};
+ghost use Rattle.rncv_c_handles.specs.views.Events as of_events;
+ghost use Rattle.rncv_c_handles.specs.views.Expected.{HoldsNoDocument, IsExpectationIn, IsTagText};
+ghost use Rattle.rncv_c_handles.specs.views.Options.{HasNoOptions, IsOfTexts, IsOptionsText, StillHasTaken, beginning_in};
+ghost use Rattle.rncv_c_handles.specs.views.Reasons.{IsHeldBy, IsReplacementText, TellsEndReason, TellsFedReason, TellsReason, TellsStartReason};
 ghost use Rattle.rncv_c_values.specs.views.Files.{AreNamed, files_of, main_of};
-ghost use Rattle.rncv_c.specs.views.Held.{document_in, events_in, grammar_in, schema_in};
+ghost use Rattle.rncv_c_handles.specs.views.Held.{document_in, events_in, grammar_in, schema_in};
 ghost use Rattle.rncv_c_values.specs.views.Mentions.{AreMentionsOf, IsRefusedAlone};
 ghost use Rattle.rncv_c_values.specs.views.Texts.{IsTextOf, IsTooLong, IsWritten};
 ghost use Rattle.rncv_c_values.specs.views.Told.{AreRefused, AreRefusedWith, IsPlaceOfDatatype, IsRefusedName};
 
-mod documents;
-mod events;
-mod expected;
-mod handle;
-mod options;
-mod reasons;
 mod schemas;
 
-use handle::Handle;
-use options::TagBytes;
+use rncv_c_handles::options::TagBytes;
+use rncv_c_handles::{Handle, documents, events, expected, options, reasons};
 use rncv_c_values::{
     AttributeBytes, Judgement, NameBytes, ReasonNumbers, Refusal, SchemaFile, Status, set_of_number,
 };

@@ -5,11 +5,11 @@ ghost use Rattle.rnc_model.specs.loading.SchemaFile.{FileName};
 ghost use Rattle.rncv_model.specs.answers.VerdictWith.{IsRefusalWith};
 ghost use Rattle.rncv_validator.specs.views.Validators.{IsOneFor, IsOneForWith};
 ghost use Rattle.rncv_c_values.specs.views.Files.{AreNamed, files_of, main_of};
-ghost use Rattle.rncv_c.specs.views.Held.{schema_in};
+ghost use Rattle.rncv_c_handles.specs.views.Held.{schema_in};
 ghost use Rattle.rncv_c_values.specs.views.Texts.{IsTextOf, IsTooLong, IsWritten};
 ghost use Rattle.rncv_c_values.specs.views.Told.{AreRefused, AreRefusedWith, IsRefusedName};
 
-use crate::handle::{Handle, Held};
+use rncv_c_handles::{Handle, Held};
 use rncv_c_values::{
     Refusal, SchemaFile, Status, are_named, copied, copied_files, refusal_to_tell,
 };

@@ -1,4 +1,4 @@
-use Rattle.rncv_c.specs.views.Held.{schema_in}
+use Rattle.rncv_c_handles.specs.views.Held.{schema_in}
 use Rattle.rncv_c.proofs.ProfileCompiled.{all_refused, one_compiled}
 use Rattle.rncv_c.proofs.schemas.compile.Goals as goal
 

@@ -1,5 +1,5 @@
 use Rattle.std.proofs.Common.{◌≡◌, ◌∙◌, ◌<◌, ◌++◌, ℕ, List, ap, drop, length, subst, sym}
-use Rattle.rncv_c.specs.views.Held.{schema_in}
+use Rattle.rncv_c_handles.specs.views.Held.{schema_in}
 use Rattle.rncv_c_values.specs.declared.status.Status.TheVariants.{Done, Space}
 use Rattle.rncv_c.proofs.WrittenTexts.{text_too_long, text_written}
 use Rattle.rncv_c.proofs.schemas.simple.Goals as goal

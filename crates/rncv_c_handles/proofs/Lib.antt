@@ -1,0 +1,3 @@
+mod AsBox
+mod Crossing
+mod Values
