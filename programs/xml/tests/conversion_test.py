@@ -317,6 +317,14 @@ class Declared(Converted):
             self.assertEqual(found, "over a limit of this program: a tag has more than 10,000 attributes and declarations")
         self.assertLess(processor_seconds() - begun, 3)
 
+    def test_defaults_of_many_elements(self):
+        declared = "".join(f"<!ATTLIST e{number} x CDATA '{number}'>" for number in range(20_000))
+        elements = "".join(f"<e{number}/>" for number in range(0, 20_000, 7))
+        begun = processor_seconds()
+        found = self.pyx(f"<!DOCTYPE a [{declared}]><a>{elements}</a>")
+        self.assertLess(processor_seconds() - begun, 1)
+        self.assertEqual(found, b"(a\n" + b"".join(b"(e%d\nAx %d\n)e%d\n" % (number, number, number) for number in range(0, 20_000, 7)) + b")a\n")
+
     def test_long_declarations(self):
         choices = "|".join(f"n{number}" for number in range(100_000))
         blanks = "\n" * 4_000_000
