@@ -8,6 +8,7 @@ ghost use Rattle.rng_deriv_events.specs.views.Inputs.{IsOf};
 
 use crate::input::Input;
 use rng_model::{Attr, EventKind, Name, OutOfMemory};
+use rng_names::copy_of;
 use std::alloc::Global;
 
 /// The event after which no continuation of a document is valid.
@@ -38,7 +39,7 @@ impl FailedEvent {
 fn copied_start(alloc: Global, name: &Name, attrs: &[Attr]) -> Result<FailedEvent, OutOfMemory>
     ensures { IfOk result (λ event. IsFailedEvent event (trees.a_start (name_of name.now) (map attribute_of attrs.now))) }
 {
-    let name = copied_name(alloc, name)?;
+    let name = copy_of(alloc, name)?;
     let attrs = copied_attributes(alloc, attrs)?;
     Ok(FailedEvent::Start { name, attrs })
 }
@@ -54,21 +55,11 @@ pub fn failed_event(alloc: Global, input: Input<'_>) -> Result<FailedEvent, OutO
     }
 }
 
-/// Returns a copy of a name, which shares its namespace.
-fn copied_name(alloc: Global, name: &Name) -> Result<Name, OutOfMemory>
-    ensures { IfOk result (λ copy. name_of copy ≡ name_of name.now) }
-{
-    Ok(Name {
-        ns: name.ns.share()?,
-        local: String::from_str(alloc, name.local.as_str())?,
-    })
-}
-
 /// Returns a copy of an attribute.
 fn copied_attribute(alloc: Global, attr: &Attr) -> Result<Attr, OutOfMemory>
     ensures { IfOk result (λ copy. attribute_of copy ≡ attribute_of attr.now) }
 {
-    let name = copied_name(alloc, &attr.name)?;
+    let name = copy_of(alloc, &attr.name)?;
     let value = String::from_str(alloc, attr.value.as_str())?;
     Ok(Attr { name, value })
 }

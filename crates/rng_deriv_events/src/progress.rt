@@ -75,6 +75,7 @@ fn step_by<D: Derivatives>(
 
 /// Takes one more event of a document that may be valid, at this line. Returns `None` if it may still be valid, otherwise
 /// what was left before the event.
+#[inline(always)]
 fn go_on<D: Derivatives>(
     derivatives: &mut D,
     alloc: Global,

@@ -4,7 +4,7 @@
 //! `contains` returns exactly whether a class holds a name, and allocates nothing. `overlap` returns exactly whether
 //! some name is in both of two classes, among all pairs of texts and not only those that are written in them. It fails
 //! only when out of memory, and never if one class is a plain name. With `longest` and `fresh_text` callers get a text
-//! that is written in no class.
+//! that is written in no class. `copy_of` returns a copy of a name.
 //!
 //! `NameKeys` has keys of names for a grammar. A region is a name class without its excepts, and the class of each except
 //! is a region of its own. Names of one namespace that are written once, and in the same region, share a key: a class of
@@ -35,4 +35,5 @@ pub use common_name::overlap;
 pub use membership::{contains, is_same_name};
 pub use name_keys::{NameKey, NameKeys};
 pub use prepared_class::PreparedClass;
+pub use texts::copy_of;
 pub use written::{fresh_text, longest};

@@ -22,8 +22,8 @@ pub(crate) fn copied(alloc: Global, ns: &str, local: &str) -> Result<Name, OutOf
     })
 }
 
-/// Returns a copy of a name, which shares its namespace.
-pub(crate) fn copy_of(alloc: Global, name: &Name) -> Result<Name, OutOfMemory>
+/// Returns a copy of a name, which shares its namespace. Fails only when out of memory. Costs a copy of the local name.
+pub fn copy_of(alloc: Global, name: &Name) -> Result<Name, OutOfMemory>
     ensures { IfOk result (λ copy. name_of copy ≡ name_of name.now) }
 {
     Ok(Name {
