@@ -1,3 +1,5 @@
 pub mod WellFormed
 pub mod Derivatives
+pub mod Events
+pub mod Trees
 pub mod Laws
