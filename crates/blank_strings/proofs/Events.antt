@@ -4,8 +4,9 @@ use Rattle.std.proofs.lemmas.List.Folds.{list_all-append}
 use Rattle.std.specs.List.{AllByRecursion}
 use Rattle.rng_model.specs.datatypes.Texts.{is_blank, is_blank_byte}
 use Rattle.rng_model.specs.documents.PyxTrees.{Event, EventKind, a_start, a_string, an_end}
-use Rattle.rng_model.specs.documents.Telling.{IsGood, string_at, text_told, depth_after, text_after, events_behind}
-use Rattle.blank_strings.specs.LeftOutCalls.{call, AreTexts, no_text, text_and, IsTag, IsBeside, is_end, LeaveOutTexts, last_texts, texts_stay, texts_out}
+use Rattle.rng_model.specs.documents.Telling.{string_at, text_told, depth_after, text_after, events_behind}
+use Rattle.element_events.specs.views.Told.{call}
+use Rattle.blank_strings.specs.LeftOutCalls.{AreTexts, no_text, text_and, IsTag, IsBeside, is_end, LeaveOutTexts, last_texts, texts_stay, texts_out}
 
 -- the first event is a tag, and a string before it is beside an element
 abbrev pub BeginsBeside : Bool → List Event → Type 0
@@ -89,22 +90,18 @@ left_out_strings (texts_out {b = b} {cs = cs} {ds = ds} run n k a i o) depth =
     rw (run_told a depth [] (call n k ∷ cs), tag_told k t n depth text cs, tag_told k t n depth [] ds)
     (blank_is_out k n text _ _ (blank_behind a depth [] refl) i (left_out_strings o (depth_after k depth)))
 
--- ---- what a call tells by itself
+-- ---- what holds of each call
 
-abbrev AreGood : List Event → Type 0
-AreGood calls = AllByRecursion (λ (c : Event). IsGood c.kind) calls
+module _ (P : Event → Type 0) where
+  pub all_in_place : (run cs ds : List Event) → (AllByRecursion P cs → AllByRecursion P ds) → AllByRecursion P (run ++ cs) → AllByRecursion P (run ++ ds)
+  all_in_place [] cs ds f g = f g
+  all_in_place (c ∷ run) cs ds f g = (g.0, all_in_place run cs ds f g.1)
 
-good_in_place : (run cs ds : List Event) → (AreGood cs → AreGood ds) → AreGood (run ++ cs) → AreGood (run ++ ds)
-good_in_place [] cs ds f g = f g
-good_in_place (c ∷ run) cs ds f g = (g.0, good_in_place run cs ds f g.1)
+  all_without : (run cs ds : List Event) → (AllByRecursion P cs → AllByRecursion P ds) → AllByRecursion P (run ++ cs) → AllByRecursion P ds
+  all_without [] cs ds f g = f g
+  all_without (c ∷ run) cs ds f g = all_without run cs ds f g.1
 
-good_behind : (run cs : List Event) → AreGood (run ++ cs) → AreGood cs
-good_behind [] cs g = g
-good_behind (c ∷ run) cs g = good_behind run cs g.1
-
-pub stay_good : {b : Bool} {cs ds : List Event} → LeaveOutTexts b cs ds → AreGood cs → AreGood ds
-stay_good (last_texts a) g = g
-stay_good (texts_stay run n k a t o) g = good_in_place run _ _ (λ g. (g.0, stay_good o g.1)) g
-stay_good (texts_out run n k a i o) g =
-    let behind = good_behind run _ g in
-    (behind.0, stay_good o behind.1)
+  pub all_stay_so : {b : Bool} {cs ds : List Event} → LeaveOutTexts b cs ds → AllByRecursion P cs → AllByRecursion P ds
+  all_stay_so (last_texts a) g = g
+  all_stay_so (texts_stay {cs = cs} {ds = ds} run n k a t o) g = all_in_place run (call n k ∷ cs) (call n k ∷ ds) (λ g. (g.0, all_stay_so o g.1)) g
+  all_stay_so (texts_out {cs = cs} {ds = ds} run n k a i o) g = all_without run (call n k ∷ cs) (call n k ∷ ds) (λ g. (g.0, all_stay_so o g.1)) g

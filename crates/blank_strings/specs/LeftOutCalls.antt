@@ -2,9 +2,7 @@
 use Rattle.std.specs.Prelude.{⊤, ◌≡◌, ℕ, List, [], ◌∷◌, ◌++◌, Bool, true, false}
 use Rattle.rng_model.specs.datatypes.Texts.{is_blank}
 use Rattle.rng_model.specs.documents.PyxTrees.{Event, EventKind, a_start, a_string, an_end}
-
-abbrev pub call : ℕ → EventKind → Event
-call n k = record { line = n; kind = k }
+use Rattle.element_events.specs.views.Told.{call}
 
 -- the calls are texts, and P holds of each
 pub data AreTexts (P : List ℕ → Type 0) : List Event → Type 0 where
