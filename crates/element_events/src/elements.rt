@@ -136,6 +136,7 @@ impl ElementEvents {
     }
 
     /// Takes a text, and keeps it or passes over it.
+    #[inline(always)]
     fn take_text(&mut self, text: &str, keeps: bool) -> Result<(), EventFault>
         ensures stands { (place : ℕ) → UnlessOutOfMemory result (Adds self.old self.new (call place (a_string text.now))) }
         ensures kept { keeps ≡ true → self.old.passed ≡ None → self.new.passed ≡ None }

@@ -86,6 +86,7 @@ impl State {
     }
 
     /// Hands out the start of an element, which is the tag, with these attributes.
+    #[inline(always)]
     fn start_tag<E: Events>(
         &mut self,
         place: u64,
