@@ -1,7 +1,7 @@
 //! Blank strings beside elements change no answer (RELAX NG Specification, section 6.2.7).
 //!
-//! So a program that reads a document need not tell of such strings. The crate has no code. Its theorems are in
-//! `specs/Laws`, and `proofs/Laws` proves them:
+//! So a program that reads a document need not tell of such strings. The crate has no code. `blank_string_laws` promises
+//! the theorems of `specs/Laws`:
 //!
 //! - A document without such strings (`specs/LeftOut`) is well-formed, and is valid exactly if it was valid with them: by
 //!   a simple grammar (`StaysValid`), and by a schema as it is written (`StaysValidBySchema`).
@@ -13,3 +13,19 @@
 //! In `proofs/`: `Derivatives` (after each element the derivatives of both documents are the same), `Events` (what the
 //! calls tell), `Trees` (the document that is left), `Fronts` (what is before a call), `Examples` (small cases).
 #![tactic(auto)]
+
+ghost use Rattle.blank_strings.specs.Laws.{StaysAnswered, StaysHopeless, StaysTold, StaysValid, StaysValidBySchema, StaysWellFormed};
+
+/// Does nothing: its contract is the laws.
+///
+/// A document without some blank strings that are beside elements stays well-formed, and valid or invalid, by a simple grammar
+/// and by a schema as it is written. Calls without the texts of such strings tell the document without them, and what is
+/// right about these calls is right about all. RELAX NG Specification, sections 6.2.7 and 6.3.
+pub fn blank_string_laws()
+    ensures formed { StaysWellFormed }
+    ensures valid { StaysValid }
+    ensures schema { StaysValidBySchema }
+    ensures told { StaysTold }
+    ensures hopeless { StaysHopeless }
+    ensures answered { StaysAnswered }
+{}
