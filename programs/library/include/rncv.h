@@ -246,7 +246,8 @@ int32_t rncv_events_start(rncv_schema *schema, uint64_t place, const uint8_t *ur
 
 /* Takes a text. It may be empty. Texts that follow each other are one, and it has the place of the start or end behind it. White space outside the root
  * counts for nothing. `bytes` may be NULL if `length` is 0. A character may not be cut in two. A text may be of any length: it is kept up to the next
- * start or end only where the schema tests what it says, as a datatype or a value does.
+ * start or end only where the schema tests what it says, as a datatype or a value does. White space beside an element need not be passed: the verdict of a
+ * document is then the same, VALID or INVALID (blank_string_laws of the crate blank_strings). Where it is all that an element has, it counts.
  *
  * RNCV_MALFORMED: no document begins with the calls so far: the text is not UTF-8, has a character that XML does not have, or is outside the root and not
  * white space. The other statuses, and the rules for the caller, are those of rncv_events_start. */

@@ -23,6 +23,7 @@ struct gap_is {
     bool cut : 1;    /* no more of the text is kept */
     bool begun : 1; /* what is kept of it begins with a character that is no blank */
     bool known : 1; /* the judging knows the place of its position */
+    bool untold : 1; /* the text is blank, and the library has not been told of it */
 };
 
 /* What is directly before a start or an end: a text, the start tag before, or neither. */
@@ -59,6 +60,7 @@ struct judging {
     size_t usual_depth; /* a start that is deeper is a usual one: no scope has ended before it, the document is valid so far, and has no IDs */
     bool has_ids;    /* IDs are checked */
     bool is_usual;   /* the document is valid so far, and has no IDs */
+    bool is_behind_start; /* the last start or end was a start */
     bool has_begun; /* a byte of the document was read, and this is the first one */
     char first;
 };
@@ -317,9 +319,19 @@ static void look(struct judging *judging) {
     }
 }
 
+/* Tells the library of a blank text. */
+static OUT_OF_LINE void tell_blanks(struct judging *judging) {
+    struct gap *gap = &judging->next->gap;
+    gap->is.untold = false;
+    library_text(&judging->judge->schema, raw_text(gap->position));
+}
+
 /* Keeps what is needed of the texts and names that vanish. */
 static void keep(void *context) {
     struct judging *judging = context;
+    if (judging->next->gap.is.untold) {
+        tell_blanks(judging);
+    }
     look(judging);
     if (judging->found.is_there) {
         return;
@@ -345,6 +357,7 @@ static inline void end_step(struct judging *judging, struct position position, c
     step->depth = depth;
     judging->next->gap.position = position;
     judging->next->gap.is = (struct gap_is){.tag = !is_end};
+    judging->is_behind_start = !is_end;
 }
 
 /* Passes a start to the library. False: it is not taken. */
@@ -453,6 +466,9 @@ static void keep_piece(struct judging *judging, struct position position, struct
 /* Takes any piece of a text. */
 static OUT_OF_LINE void take_any_text(struct judging *judging, struct position position, struct span text, bool is_raw) {
     struct judge *judge = judging->judge;
+    if (judging->next->gap.is.untold) {
+        tell_blanks(judging);
+    }
     if (!judging->found.is_there) {
         keep_piece(judging, position, text, is_raw);
     }
@@ -462,7 +478,10 @@ static OUT_OF_LINE void take_any_text(struct judging *judging, struct position p
     }
 }
 
-/* Takes a piece of a text. Mostly it is the first one, and in the document as it is: then it is not copied. Of the status take_start says enough. */
+/* Takes a piece of a text. Mostly it is the first one, and in the document as it is: then it is not copied. Of the status take_start says enough.
+ *
+ * The library is not told of a blank text beside an element, since such a text changes no verdict (RELAX NG Specification, section 6.2.7; blank_string_laws of the
+ * crate blank_strings). Whether one is beside an element shows at the next start or end. */
 static void take_text(void *context, struct position position, struct span text, bool is_raw) {
     struct judging *judging = context;
     struct gap *gap = &judging->next->gap;
@@ -470,14 +489,25 @@ static void take_text(void *context, struct position position, struct span text,
         take_any_text(judging, position, text, is_raw);
         return;
     }
+    bool is_blank = blanks_of(text) == text.length;
     gap->position = position;
-    gap->is = (struct gap_is){.text = true, .raw = true};
-    library_text(&judging->judge->schema, text);
+    gap->is = (struct gap_is){.text = true, .raw = true, .untold = is_blank};
+    if (!is_blank) {
+        library_text(&judging->judge->schema, text);
+    }
+}
+
+/* Whether a blank text is all that is in the element that ends, and the library has not been told of it. */
+static inline bool is_untold_alone(const struct judging *judging) {
+    return judging->next->gap.is.untold && judging->is_behind_start;
 }
 
 /* Takes any end. */
 static OUT_OF_LINE void take_any_end(struct judging *judging, struct position position, const struct event_name *name) {
     struct judge *judge = judging->judge;
+    if (is_untold_alone(judging)) {
+        tell_blanks(judging);
+    }
     if (!has_room(judging)) {
         look(judging);
     }
@@ -492,7 +522,7 @@ static OUT_OF_LINE void take_any_end(struct judging *judging, struct position po
 /* Takes an end, as take_start does a start. */
 static void take_end(void *context, struct position position, const struct event_name *name) {
     struct judging *judging = context;
-    if (!judging->is_usual || !has_room(judging)) {
+    if (!judging->is_usual || !has_room(judging) || is_untold_alone(judging)) {
         take_any_end(judging, position, name);
         return;
     }
