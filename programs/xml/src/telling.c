@@ -390,7 +390,8 @@ static const struct wanted_text *add_wanted(struct words *words, const struct ex
 static void say_wrong(struct words *words, const struct expected *expected, struct span text, bool is_whole) {
     const struct wanted_text *only = add_wanted(words, expected);
     if (only == NULL) {
-        say(words, " is wrong");
+        /* a string that no value and no datatype could be is for a list */
+        say(words, words->answer->expected_count == 0 ? " is no list that the schema allows" : " is wrong");
         say_text(words, text);
         say_expected(words, "; expected ");
         return;

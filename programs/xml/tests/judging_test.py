@@ -39,6 +39,7 @@ class Lines(InFolder):
         self.invalid("element a { element b { xsd:integer } }", "<a>\n <b>12x</b></a>", '2:5: invalid: the text of <b> is no xsd:integer ("12x")')
         self.invalid("element a { element b { xsd:integer } }", "<a>\n <b><!-- 1 -->1<![CDATA[\n2]]>\n</b></a>", '2:15: invalid: the text of <b> is no xsd:integer ("1\\n2\\n")')
         self.invalid('element a { element b { "x" } }', "<a>\n <b/></a>", '2:2: invalid: <b> ends too early: expected "x"')
+        self.invalid("element a { list { xsd:integer+ } }", "<a>1 x</a>", '1:4: invalid: the text of <a> is no list that the schema allows ("1 x")')
         self.invalid("element a { element b { empty }, element c { empty } }", "<a>\n <b/>\n </a>", "3:2: invalid: <a> ends too early: expected <c>")
         self.invalid("element a { mixed { element b { empty } } }", "<a>\n text </a>", "2:7: invalid: <a> ends too early: expected <b>")
         self.invalid("element a { element b { empty }* }", "<a>\n <b/> text <b/></a>", '2:7: invalid: text is not allowed in <a> ("text "); expected <b>')
