@@ -85,6 +85,7 @@ impl Handle {
     }
 
     /// Puts a value into the handle. What it held is freed. Allocates nothing.
+    #[inline(always)]
     pub fn put(&mut self, value: Box<Held>)
         ensures { self.new.held ≡ Some value.value }
     {
