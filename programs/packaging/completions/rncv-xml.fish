@@ -11,6 +11,7 @@ complete -c rncv-xml -l map -r -F -d 'The file that a word in an include or exte
 complete -c rncv-xml -l dtd -d 'Read the external DTD and external entities, from files'
 complete -c rncv-xml -l max-depth -x -d 'The most elements that may be open'
 complete -c rncv-xml -l max-memory -x -d 'The most memory that a document may take'
+complete -c rncv-xml -l max-attributes -x -d 'The most attributes and declarations of a tag'
 complete -c rncv-xml -l no-ids -d 'Do not check IDs'
 complete -c rncv-xml -l strict -d 'A document with a note is outside the profile'
 complete -c rncv-xml -l catalog -r -F -d 'An XML catalog'

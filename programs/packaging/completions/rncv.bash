@@ -35,11 +35,11 @@ _rncv_xml() {
     --color) _rncv_words "auto always never" "$2"; return ;;
     --datatypes) _rncv_words "xml-schema profile" "$2"; return ;;
     --files-from | --map | --catalog) _rncv_files "$2" '*'; return ;;
-    --glob | --stdin-name | -j | --jobs | --max-faults | --max-depth | --max-memory) return ;;
+    --glob | --stdin-name | -j | --jobs | --max-faults | --max-depth | --max-memory | --max-attributes) return ;;
     esac
     case $2 in
     -*)
-        _rncv_words "--recursive -r --glob --files-from --null -0 --stdin-name --jobs -j --map --catalog --datatypes --dtd --max-depth --max-memory --no-ids --strict --print-schema --strict-profile --all --verbose -v --quiet -q --max-faults --format --color --source --no-source --help -h --version" "$2"
+        _rncv_words "--recursive -r --glob --files-from --null -0 --stdin-name --jobs -j --map --catalog --datatypes --dtd --max-depth --max-memory --max-attributes --no-ids --strict --print-schema --strict-profile --all --verbose -v --quiet -q --max-faults --format --color --source --no-source --help -h --version" "$2"
         return
         ;;
     esac

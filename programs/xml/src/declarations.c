@@ -12,14 +12,13 @@
 
 enum {
     MOST_LEVELS = 500,      /* entities in one another: libxml2 calls itself for an entity in an entity, and goes some 510 levels down */
-    MOST_DEFAULTS = 1000,   /* declarations of namespaces by default, or of attributes with a default for one element */
+    MOST_DEFAULTS = 1000,   /* declarations of namespaces by default, or of attributes with a default for one element, unless more is allowed than usual */
     FEW_ELEMENTS = 64,      /* with defaults, for which the table of libxml2 is large enough */
     MOST_LOADED = 67108864, /* bytes of external entities */
     MOST_WRITTEN = 67108864, /* bytes of texts that are written for libxml2 */
     REFERENCE_COST = 256,  /* of a reference, in bytes */
     EMPTY_PLACES = 4096,   /* at which an empty entity is read in turn */
-    EXPANDED_BYTES = 67108864, /* what entities may give in any document */
-    MOST_GROWTH = 100      /* how many times as long as the document their text may be, above that */
+    EXPANDED_BYTES = 67108864 /* what entities may give in any document */
 };
 
 static const char too_deep[] = "more than 500 entities in one another: outside the profile";
@@ -186,11 +185,12 @@ static void check_behind(struct declarations *declarations) {
 
 /* Refuses the text of an entity that libxml2 would take long for, since it compares attributes and choices in pairs. */
 static void check_text(struct declarations *declarations, struct span text, bool is_parameter) {
-    if (!is_parameter && has_too_many_attributes(text)) {
-        refuse(declarations, too_many_attributes);
+    struct feed *feed = declarations->feed;
+    if (!is_parameter && has_too_many_attributes(text, feed->most_attributes)) {
+        feed_refuse(feed, declarations_place(declarations), too_many_attributes, feed->most_attributes, "--max-attributes");
     }
-    if (is_parameter && has_too_many_choices(text)) {
-        refuse(declarations, too_many_choices);
+    if (is_parameter && has_too_many_choices(text, feed->most_attributes)) {
+        feed_refuse(feed, declarations_place(declarations), too_many_choices, feed->most_attributes, "--max-attributes");
     }
 }
 
@@ -220,10 +220,20 @@ void declarations_entity(struct declarations *declarations, bool is_parameter, x
     }
 }
 
+/* Whether so many defaults are too many. Then the document is refused. libxml2 compares them in pairs for each tag, so there may be fewer than attributes of a
+ * tag, unless the user allows more of those than usual. */
+static bool are_too_many(struct declarations *declarations, uintptr_t count, const char *what) {
+    struct feed *feed = declarations->feed;
+    size_t most = feed->most_attributes > USUAL_ATTRIBUTES ? feed->most_attributes : MOST_DEFAULTS;
+    if (count > most) {
+        feed_refuse(feed, declarations_place(declarations), what, most, feed_raising(feed));
+    }
+    return count > most;
+}
+
 /* Keeps a declaration of a namespace that is there by default. */
 static void keep_default(struct declarations *declarations, const xmlChar *element, const xmlChar *name, const xmlChar *value) {
-    if (declarations->default_count == MOST_DEFAULTS) {
-        refuse(declarations, "over a limit of this program: more than 1,000 declarations of namespaces by default");
+    if (are_too_many(declarations, declarations->default_count + 1, "more than %s declarations of namespaces by default")) {
         return;
     }
     if (declarations->default_count == declarations->default_capacity) {
@@ -292,9 +302,8 @@ static void count_default(struct declarations *declarations, const xmlChar *elem
     uintptr_t count = (uintptr_t)xmlHashLookup(declarations->counts, element) + 1;
     if (xmlHashUpdateEntry(declarations->counts, element, (void *)count, NULL) != 0) {
         out_of_memory(declarations);
-    } else if (count > MOST_DEFAULTS) {
-        refuse(declarations, "more than 1,000 declarations of attributes with defaults for one element: outside the profile");
-    } else if (xmlHashSize(declarations->feed->parser->attsDefault) >= 8 * declarations->table_size + FEW_ELEMENTS) {
+    } else if (!are_too_many(declarations, count, "more than %s declarations of attributes with defaults for one element") &&
+               xmlHashSize(declarations->feed->parser->attsDefault) >= 8 * declarations->table_size + FEW_ELEMENTS) {
         grow_table(declarations);
     }
 }

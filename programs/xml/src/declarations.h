@@ -34,6 +34,8 @@ struct level {
     size_t depth;
 };
 
+enum { MOST_GROWTH = 100 /* how many times as long as the document may be what entities and defaults give, above some bytes */ };
+
 struct declarations {
     struct feed *feed;
     const struct event_sink *sink; /* gets notes */

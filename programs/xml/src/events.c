@@ -44,6 +44,7 @@ struct reader {
     bool has_marked_uri; /* a namespace had marks */
     bool has_control;    /* the receiver was asked whether it takes control characters */
     size_t most_depth;
+    uint64_t allowed; /* how many times what a tag usually may cost is allowed: it grows with the square of its attributes */
     size_t unasked;    /* the bytes of texts since the receiver was asked how much it keeps */
     uint64_t searched; /* how many open namespaces were looked at for names */
     struct parser_memory memory;
@@ -334,11 +335,12 @@ static bool declares(const struct reader *reader, size_t count, struct span pref
     return false;
 }
 
-/* Counts what attributes or namespaces by default cost. */
+/* Counts what attributes or namespaces by default cost, in bytes. */
 static void count_defaults(struct reader *reader, uint64_t cost) {
-    if (cost > 0 && !declarations_count(&reader->declarations, cost)) {
-        fault_set(reader->fault, FAULT_OUTSIDE, place_of(reader->start.position),
-                  "attributes by default of more than 100 times the document's length: outside the profile");
+    uint64_t counted = cost / reader->allowed;
+    if (counted > 0 && !declarations_count(&reader->declarations, counted)) {
+        feed_refuse(&reader->feed, place_of(reader->start.position), "attributes by default of more than %s times the document's length",
+                    MOST_GROWTH * reader->allowed, feed_raising(&reader->feed));
     }
 }
 
@@ -356,7 +358,7 @@ static void add_defaults(struct reader *reader, struct start_event *start) {
             add_declaration(reader, start, (struct span){prefix, strlen(prefix)}, (struct span){found->value, strlen(found->value)});
         }
     }
-    count_defaults(reader, count * count / COST_OF_DEFAULTS + declarations->default_count / COST_OF_DEFAULTS);
+    count_defaults(reader, (count * count + declarations->default_count) / COST_OF_DEFAULTS);
 }
 
 static void add_declarations(struct reader *reader, struct start_event *start, int count, const xmlChar **namespaces) {
@@ -548,11 +550,7 @@ static void check_names(struct reader *reader, const struct start_event *start) 
 static void count_open(struct reader *reader) {
     reader->start.depth++;
     if (reader->start.depth > reader->most_depth) {
-        struct bytes count = NO_BYTES;
-        bytes_add_count(&count, reader->most_depth);
-        fault_set(reader->fault, FAULT_OUTSIDE, place_of(reader->start.position),
-                  "over a limit of this program: more than %s elements are open (--max-depth)", bytes_text(&count));
-        bytes_free(&count);
+        feed_refuse(&reader->feed, place_of(reader->start.position), "more than %s elements are open", reader->most_depth, "--max-depth");
     }
 }
 
@@ -566,8 +564,10 @@ static void count_costs(struct reader *reader, int attribute_count, int default_
     uint64_t defaults = (uint64_t)default_count;
     uint64_t cost = defaults * (uint64_t)attribute_count / COST_OF_DEFAULTS;
     reader->searched += searched_for(reader, attribute_count);
-    if (reader->searched > SEARCHED && reader->searched / MOST_SEARCHED > feed_offset(&reader->feed) + reader->declarations.loaded) {
-        fault_set(reader->fault, FAULT_OUTSIDE, place_of(reader->start.position), "over a limit of this program: too many declarations of namespaces are in scope");
+    uint64_t searched = reader->searched / reader->allowed;
+    if (searched > SEARCHED && searched / MOST_SEARCHED > feed_offset(&reader->feed) + reader->declarations.loaded) {
+        feed_refuse(&reader->feed, place_of(reader->start.position), "too many declarations of namespaces are in scope",
+                    0, feed_raising(&reader->feed));
     }
     for (int at = attribute_count - default_count; at < attribute_count; at++) {
         const xmlChar **attribute = attributes + 5 * at;
@@ -1093,6 +1093,12 @@ static void open_reader(struct reader *reader, const struct byte_source *source,
     reader->feed.before_read = before_read;
     reader->feed.marked = use_marks;
     reader->feed.most = sink->memory == 0 ? USUAL_MEMORY : sink->memory;
+    reader->feed.most_attributes = sink->attributes == 0 ? USUAL_ATTRIBUTES : sink->attributes;
+    reader->allowed = 1;
+    if (reader->feed.most_attributes > USUAL_ATTRIBUTES) {
+        uint64_t most = reader->feed.most_attributes;
+        reader->allowed += most * most / USUAL_ATTRIBUTES / USUAL_ATTRIBUTES;
+    }
     reader->feed.context = reader;
 }
 

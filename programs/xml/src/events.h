@@ -68,6 +68,7 @@ struct event_sink {
     bool reads_prefixes; /* prefixes in values have a meaning for it, so a tag that takes one back is a fault */
     size_t depth;      /* the most elements that may be open; 0: USUAL_DEPTH */
     size_t memory;     /* the most bytes that may be held of the document; 0: USUAL_MEMORY */
+    size_t attributes; /* the most of a tag, with declarations of namespaces; 0: USUAL_ATTRIBUTES */
 };
 
 /* The text that came since `keep` with this position, if it is raw. */
@@ -82,6 +83,7 @@ struct byte_source {
 
 enum {
     USUAL_DEPTH = 10000,
+    USUAL_ATTRIBUTES = 10000,
     USUAL_MEMORY = 536870912
 };
 

@@ -8,15 +8,14 @@ enum {
     PIECE_BYTES = 65536,    /* of the document, read at once */
     TOKEN_BYTES = 1000000000, /* the longest markup: libxml2 takes no more */
     LONG_BYTES = 1048576,     /* the beginning of longer markup is not kept */
-    MOST_CHOICES = 10000,   /* of a declaration of attributes: libxml2 compares them in pairs */
     COUNTED_BYTES = 128,    /* whose line feeds are counted together: fewer than 256 */
     FORGOTTEN_BYTES = 65536 /* the text that was read is forgotten in pieces of this length */
 };
 
 static const char of_element[] = "<!ELEMENT";
 
-const char too_many_choices[] = "over a limit of this program: a declaration of attributes has more than 10,000 choices";
-const char too_many_attributes[] = "over a limit of this program: a tag has more than 10,000 attributes and declarations";
+const char too_many_choices[] = "a declaration of attributes has more than %s choices";
+const char too_many_attributes[] = "a tag has more than %s attributes and declarations";
 
 void feed_open(struct feed *feed, const struct byte_source *source, struct fault *fault) {
     static const struct decoding new_decoding = NO_DECODING;
@@ -231,12 +230,24 @@ bool feed_is_over(const struct feed *feed) {
     return parser_memory_held() + feed->text.capacity + feed->room.capacity + feed->kept > feed->most;
 }
 
+const char *feed_raising(const struct feed *feed) {
+    return feed->most_attributes > USUAL_ATTRIBUTES ? "--max-attributes" : "--max-attributes above 10,000";
+}
+
+void feed_refuse(struct feed *feed, struct place place, const char *what, uint64_t most, const char *option) {
+    struct bytes count = NO_BYTES;
+    struct bytes words = NO_BYTES;
+    bytes_add_count(&count, most);
+    bytes_format(&words, what, bytes_text(&count));
+    const char *text = bytes_text(&words);
+    fault_set(feed->fault, words.failed ? FAULT_MEMORY : FAULT_OUTSIDE, place, "over a limit of this program: %s (%s)", text, option);
+    bytes_free(&count);
+    bytes_free(&words);
+}
+
 void feed_check_memory(struct feed *feed, struct place place) {
     if (feed_is_over(feed)) {
-        struct bytes most = NO_BYTES;
-        bytes_add_count(&most, feed->most);
-        fault_set(feed->fault, FAULT_OUTSIDE, place, "over a limit of this program: more than %s bytes are held of the document (--max-memory)", bytes_text(&most));
-        bytes_free(&most);
+        feed_refuse(feed, place, "more than %s bytes are held of the document", feed->most, "--max-memory");
     }
 }
 
@@ -302,19 +313,19 @@ static bool is_element(struct span text, size_t at) {
     return text.length - at >= strlen(of_element) && memcmp(text.data + at, of_element, strlen(of_element)) == 0;
 }
 
-bool has_too_many_choices(struct span text) {
-    size_t count = 0;
+bool has_too_many_choices(struct span text, size_t most) {
+    size_t bars = 0; /* there is one more choice than bars */
     bool counts = true;
-    for (size_t at = 0; at < text.length && count <= MOST_CHOICES;) {
+    for (size_t at = 0; at < text.length && bars < most;) {
         size_t behind = text.data[at] == '<' ? skipped(text, at) : at;
         counts = text.data[at] == '>' || (counts && !is_element(text, at));
-        count = text.data[at] == '>' ? 0 : count + (counts && text.data[at] == '|' && behind == at);
+        bars = text.data[at] == '>' ? 0 : bars + (counts && text.data[at] == '|' && behind == at);
         at = behind > at ? behind : at + 1;
     }
-    return count > MOST_CHOICES;
+    return bars >= most;
 }
 
-bool has_too_many_attributes(struct span text) {
+bool has_too_many_attributes(struct span text, size_t most) {
     struct tag_scan found = {0, 0, '\0', 0, true};
     for (size_t at = 0; at < text.length; at++) {
         size_t behind = found.has_ended && text.data[at] == '<' ? skipped(text, at) : at;
@@ -327,7 +338,7 @@ bool has_too_many_attributes(struct span text) {
         } else {
             scan(&found, (struct span){text.data + at, 1});
         }
-        if (found.count > MOST_ATTRIBUTES) {
+        if (found.count > most) {
             return true;
         }
     }
@@ -355,8 +366,8 @@ static void check_tag(struct feed *feed, uint64_t markup) {
     }
     scan(&feed->scan, (struct span){feed->text.data + (feed->scan.next - feed->begin), (size_t)(given - feed->scan.next)});
     feed->scan.next = given;
-    if (feed->scan.count > MOST_ATTRIBUTES) {
-        fault_set(feed->fault, FAULT_OUTSIDE, feed_place(feed, markup), "%s", too_many_attributes);
+    if (feed->scan.count > feed->most_attributes) {
+        feed_refuse(feed, feed_place(feed, markup), too_many_attributes, feed->most_attributes, "--max-attributes");
     }
 }
 
@@ -369,13 +380,13 @@ static void check_choices(struct feed *feed, uint64_t markup) {
     if (feed->choices_begin != feed->next) {
         feed->choices_begin = feed->next;
         feed->choices_at = feed->next;
-        feed->choices = 0;
+        feed->bars = 0;
     }
     for (; feed->choices_at < given; feed->choices_at++) {
-        feed->choices += feed_byte(feed, feed->choices_at) == '|';
+        feed->bars += feed_byte(feed, feed->choices_at) == '|';
     }
-    if (feed->choices > MOST_CHOICES) {
-        fault_set(feed->fault, FAULT_OUTSIDE, feed_place(feed, feed->next), "%s", too_many_choices);
+    if (feed->bars >= feed->most_attributes) {
+        feed_refuse(feed, feed_place(feed, feed->next), too_many_choices, feed->most_attributes, "--max-attributes");
     }
 }
 

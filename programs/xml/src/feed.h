@@ -11,10 +11,7 @@
 
 #include <libxml/parser.h>
 
-enum {
-    MOST_ATTRIBUTES = 10000, /* of a tag, with declarations of namespaces: libxml2 compares them in pairs */
-    MARK_BYTES = 9           /* the longest beginning that tells markup: `<![CDATA[` */
-};
+enum { MARK_BYTES = 9 /* the longest beginning that tells markup: `<![CDATA[` */ };
 
 /* The start tag that is being read: how many attributes it has. It is scanned while its text comes, before libxml2 compares them in pairs. */
 struct tag_scan {
@@ -42,8 +39,8 @@ struct feed {
     uint64_t away_at;
     uint64_t markup;    /* the offset after the blanks at `next`, as far as they are known */
     uint64_t settled;   /* the last offset up to which references that gave nothing were passed */
-    uint64_t choices_at;    /* the offset from which on the choices of a declaration are not counted */
-    size_t choices;         /* how many there are before that */
+    uint64_t choices_at;    /* the offset from which on the bars between choices of a declaration are not counted */
+    size_t bars;            /* how many there are before that */
     uint64_t choices_begin; /* where the counting began */
     uint64_t next;      /* the offset of the markup or the text that is being read */
     struct tag_scan scan;
@@ -53,6 +50,7 @@ struct feed {
     struct place long_place;
     char long_mark[MARK_BYTES]; /* .. but its place and its first bytes */
     size_t most;        /* the bytes that may be held of the document */
+    size_t most_attributes; /* that a tag may have, with declarations; the same for the choices of a declaration: libxml2 compares them in pairs */
     size_t kept;        /* the bytes that the receiver keeps, when it was asked last */
     void (*keep)(void *context);        /* is called before text that was read is forgotten */
     void (*before_read)(void *context); /* is called before more of the document is read, which may take long */
@@ -135,15 +133,22 @@ uint64_t feed_settle(struct feed *feed, uint64_t end);
 bool feed_is_over(const struct feed *feed);
 void feed_check_memory(struct feed *feed, struct place place);
 
+/* Refuses the document, which is over a limit of the program that the option raises. The words have `%s` in the place of the limit, if they name it. */
+void feed_refuse(struct feed *feed, struct place place, const char *what, uint64_t most, const char *option);
+
+/* The option that raises the limits which grow with the attributes of a tag, once these may be more than usual. */
+const char *feed_raising(const struct feed *feed);
+
 /* Notes that libxml2 gets a text with such marks. */
 void feed_has_marks(struct feed *feed);
 
-/* Whether a tag in the text has more attributes than are read. */
-bool has_too_many_attributes(struct span text);
+/* Whether a tag in the text has more attributes than so many. */
+bool has_too_many_attributes(struct span text, size_t most);
 
-/* Whether a declaration in the text has more choices than are read. */
-bool has_too_many_choices(struct span text);
+/* Whether a declaration in the text has more choices than so many. */
+bool has_too_many_choices(struct span text, size_t most);
 
+/* The words for feed_refuse. */
 extern const char too_many_attributes[];
 extern const char too_many_choices[];
 

@@ -707,7 +707,7 @@ static void answer_all(struct judging *judging) {
 static void read_source(struct judging *judging, const struct byte_source *source) {
     const struct shared *shared = judging->judge->shared;
     struct event_sink sink = {take_start, take_text, take_end, take_instruction, take_note, NULL, keep, held, take_control, judging, true, false, shared->depth,
-                              shared->memory};
+                              shared->memory, shared->attributes};
     read_events(source, &sink, judging->fault);
 }
 

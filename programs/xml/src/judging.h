@@ -84,6 +84,7 @@ struct shared {
     struct streams streams;
     size_t depth;  /* the most elements that may be open in a document; 0: as many as usual */
     size_t memory; /* the most bytes that may be held of a document; 0: as many as usual */
+    size_t attributes; /* the most attributes and declarations of a tag; 0: as many as usual */
     atomic_ullong bytes_read;
     const char *page;  /* where the page about the clauses is */
     bool is_strict;    /* a document with a note is outside the profile */

@@ -21,6 +21,7 @@ enum name {
     NAME_MAX_FAULTS,
     NAME_MAX_DEPTH,
     NAME_MAX_MEMORY,
+    NAME_MAX_ATTRIBUTES,
     NAME_NO_IDS,
     NAME_STRICT,
     NAME_STRICT_PROFILE,
@@ -58,6 +59,7 @@ static const struct option known[] = {
     {"--max-faults", 0, true, NAME_MAX_FAULTS},
     {"--max-depth", 0, true, NAME_MAX_DEPTH},
     {"--max-memory", 0, true, NAME_MAX_MEMORY},
+    {"--max-attributes", 0, true, NAME_MAX_ATTRIBUTES},
     {"--no-ids", 0, false, NAME_NO_IDS},
     {"--strict", 0, false, NAME_STRICT},
     {"--strict-profile", 0, false, NAME_STRICT_PROFILE},
@@ -88,6 +90,8 @@ const char *options_help(void) {
            "      --dtd            read the external DTD and external entities of a document, from files\n"
            "      --max-depth N    the most elements that may be open (else 10,000)\n"
            "      --max-memory SIZE  the most memory that a document may take, in bytes, or with K, M or G (else 512M)\n"
+           "      --max-attributes N  the most attributes and declarations of a tag, and choices of one that is declared (else 10,000);\n"
+           "                       above that also the most of them by default (else 1,000); time grows with the square of these\n"
            "      --no-ids         do not check that each ID is there once, and that what refers to one finds it\n"
            "      --strict         a document with a note, such as an external DTD that is not read, is outside the profile;\n"
            "                       a schema in the XML syntax with a note is refused\n"
@@ -175,13 +179,14 @@ static bool take_size(struct options *options, const char *value, bool has_unit,
     return true;
 }
 
-static bool take_faults(struct options *options, const char *value) {
+/* Reads a number from 1 to this one. `wanted` says what is wrong with another word. */
+static bool take_number(struct options *options, const char *value, size_t most, const char *wanted, size_t *taken) {
     char *end;
     unsigned long number = value[0] < '0' || value[0] > '9' ? 0 : strtoul(value, &end, 10);
-    if (number == 0 || number > MOST_FAULTS || *end != '\0') {
-        return is_wrong(options, "--max-faults wants a number from 1 to 1000, and not '%s'", value);
+    if (number == 0 || number > most || *end != '\0') {
+        return is_wrong(options, wanted, value);
     }
-    options->most_faults = (size_t)number;
+    *taken = (size_t)number;
     return true;
 }
 
@@ -252,11 +257,13 @@ static bool take_value(struct options *options, enum name name, const char *valu
         options->most_files = (size_t)strtoul(value, NULL, 10);
         return true;
     case NAME_MAX_FAULTS:
-        return take_faults(options, value);
+        return take_number(options, value, MOST_FAULTS, "--max-faults wants a number from 1 to 1000, and not '%s'", &options->most_faults);
     case NAME_MAX_DEPTH:
         return take_size(options, value, false, &options->depth);
     case NAME_MAX_MEMORY:
         return take_size(options, value, true, &options->memory);
+    case NAME_MAX_ATTRIBUTES:
+        return take_number(options, value, MOST_ALLOWED, "--max-attributes wants a number from 1 to 1000000, and not '%s'", &options->attributes);
     case NAME_FORMAT:
         return take_format(options, value);
     case NAME_COLOR:

@@ -18,7 +18,7 @@ enum when {
     WHEN_NEVER
 };
 
-enum { MOST_JOBS = 64, USUAL_FAULTS = 20, MOST_FAULTS = 1000 };
+enum { MOST_JOBS = 64, USUAL_FAULTS = 20, MOST_FAULTS = 1000, MOST_ALLOWED = 1000000 /* attributes of a tag */ };
 
 struct options {
     const char **schemas;
@@ -34,6 +34,7 @@ struct options {
     uint32_t datatypes;     /* that the schema may name: RNCV_DATATYPES_PROFILE or RNCV_DATATYPES_XML_SCHEMA */
     size_t depth;           /* the most elements that may be open; 0: as many as usual */
     size_t memory;          /* the most bytes that may be held of a document; 0: as many as usual */
+    size_t attributes;      /* the most attributes and declarations of a tag; 0: as many as usual */
     size_t most_faults;     /* that are told of a document; all but the first are hints */
     size_t most_files;      /* that the library gets; 0: as many as it takes */
     const char *files_from;

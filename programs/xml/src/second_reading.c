@@ -345,7 +345,7 @@ static const char *take_control(void *context) {
 static void read_again(struct second_pass *pass, const struct shared *shared, const struct byte_source *source) {
     struct fault fault = NO_FAULT;
     struct event_sink sink = {take_start, take_text, take_end, take_instruction, take_note, NULL, NULL, held, take_control, pass, true, false, shared->depth,
-                              shared->memory};
+                              shared->memory, shared->attributes};
     pass->fault = &fault;
     read_events(source, &sink, &fault);
     fault_free(&fault);

@@ -314,7 +314,7 @@ class Declared(Converted):
         begun = processor_seconds()
         for before in ("", "<!-- ' -->", "<?p '?>", "<![CDATA[']]>"):
             found = self.fault(f'<!DOCTYPE a [<!ENTITY e "{before}<x {attributes}/>">]><a>&e;</a>')[2]
-            self.assertEqual(found, "over a limit of this program: a tag has more than 10,000 attributes and declarations")
+            self.assertEqual(found, "over a limit of this program: a tag has more than 10,000 attributes and declarations (--max-attributes)")
         self.assertLess(processor_seconds() - begun, 3)
 
     def test_defaults_of_many_elements(self):
@@ -330,7 +330,7 @@ class Declared(Converted):
         blanks = "\n" * 4_000_000
         begun = processor_seconds()
         for text in (f"<!DOCTYPE a [<!ATTLIST a x ({choices}) #IMPLIED>]><a/>", f"<!DOCTYPE a [<!ENTITY % p '<!ATTLIST a x ({choices}) #IMPLIED>'>%p;]><a/>"):
-            self.assertEqual(self.fault(text)[2], "over a limit of this program: a declaration of attributes has more than 10,000 choices")
+            self.assertEqual(self.fault(text)[2], "over a limit of this program: a declaration of attributes has more than 10,000 choices (--max-attributes)")
         for text in (f"<a/>{blanks}", f"<!DOCTYPE a [{blanks}]><a/>", f"<!-- -->{blanks}<a/>", f"<!DOCTYPE a [<!ELEMENT a ({choices})*>]><a/>",
                      f"<!DOCTYPE a [<!ENTITY % p '<!ELEMENT a (#PCDATA|{choices})*>'>%p;]><a/>"):
             self.assertEqual(self.pyx(text), b"(a\n)a\n")

@@ -239,17 +239,59 @@ class Lines(InFolder):
 
     def test_width(self):
         self.write("t.rnc", "element a { attribute * { text }* }")
-        for count, status in ((257, 0), (2_000, 0), (10_000, 0), (10_001, 2)):
+        for count, words, most in ((257, (), ""), (2_000, (), ""), (10_000, (), ""), (10_001, (), "10,000"), (40_000, ("--max-attributes", "40000"), ""),
+                                   (12_001, ("--max-attributes=12000",), "12,000"), (2, ("--max-attributes=1",), "1"), (1, ("--max-attributes=1",), "")):
             self.write("d.xml", "<a " + " ".join(f'a{number}=""' for number in range(count)) + "/>")
-            over = "d.xml:1:1: over a limit of this program: a tag has more than 10,000 attributes and declarations\n"
-            self.assertEqual(self.judge("t.rnc", "d.xml"), (over if status else "", status))
+            over = f"d.xml:1:1: over a limit of this program: a tag has more than {most} attributes and declarations (--max-attributes)\n"
+            self.assertEqual(self.judge(*words, "t.rnc", "d.xml"), (over, 2) if most else ("", 0), (count, words))
+
+    def test_a_wide_tag_that_is_invalid(self):
+        """What is wrong with a tag of many attributes is told at its place, also as a hint."""
+        self.write("t.rnc", 'element r { element a { attribute * - b { "" }*, attribute b { xsd:int } }* }')
+        many = " ".join(f"a{number}=''" for number in range(11_000))
+        self.write("d.xml", f"<r>\n<a {many}/>\n<a {many} b='x'/>\n<a xmlns:p='u' {many} p:c='1' b='2'/></r>")
+        self.assertEqual(self.judge("--max-attributes", "12000", "t.rnc", "d.xml"), (
+            "d.xml:2:1: invalid: <a> lacks attribute b\nd.xml:3:1: hint: attribute b of <a> is no xsd:int (\"x\")\n"
+            "d.xml:4:1: hint: attribute p:c of <a> is wrong (\"1\"); expected \"\"\n", 1))
+
+    def test_wide_declarations(self):
+        """The choices and the defaults that a DTD declares have the same limit, or a lower one below the usual one."""
+        self.write("t.rnc", "start = any\nany = element * { attribute * { text }*, any* }")
+        defaults = " ".join(f"x{number} CDATA 'v'" for number in range(1_001))
+        spaces = " ".join(f"xmlns:x{number} CDATA 'v'" for number in range(501))
+        choices = "|".join(f"n{number}" for number in range(10_001))
+        attributes = " ".join(f'a{number}=""' for number in range(10_001))
+        above = " above 10,000"
+        for declared, what, option in (
+                (f"<!ATTLIST a x ({choices}) 'n5'>", "a declaration of attributes has more than 10,000 choices", ""),
+                (f"<!ENTITY % p '<!ATTLIST a x ({choices}) #IMPLIED>'>%p;", "a declaration of attributes has more than 10,000 choices", ""),
+                (f"<!ENTITY e '<b {attributes}/>'>", "a tag has more than 10,000 attributes and declarations", ""),
+                (f"<!ATTLIST a {defaults}>", "more than 1,000 declarations of attributes with defaults for one element", above),
+                (f"<!ATTLIST a {spaces}><!ATTLIST b {spaces}>", "more than 1,000 declarations of namespaces by default", above)):
+            self.write("d.xml", f"<!DOCTYPE a [{declared}]><a/>")
+            line, status = self.judge("t.rnc", "d.xml")
+            self.assertRegex(line, rf"^d\.xml:1:\d+: over a limit of this program: {what} \(--max-attributes{option}\)\n$")
+            self.assertEqual(status, 2)
+            self.assertEqual(self.judge("--max-attributes", "10001", "t.rnc", "d.xml"), ("", 0), what)
+
+    def test_many_defaults(self):
+        """What defaults give beyond the document's length is limited. The option raises that by its square."""
+        self.write("t.rnc", "start = any\nany = element * { attribute * { text }*, any* }")
+        declared = " ".join(f"x{number} CDATA '{'v' * 100}'" for number in range(1_000))
+        self.write("d.xml", f"<!DOCTYPE b [<!ATTLIST a {declared}>]><b>{'<a/>' * 1_000}</b>")
+        over = "over a limit of this program: attributes by default of more than 100 times the document's length (--max-attributes above 10,000)\n"
+        line, status = self.judge("t.rnc", "d.xml")
+        self.assertEqual((line[line.index("over"):], status), (over, 2))
+        self.assertEqual(self.judge("--max-attributes", "20000", "t.rnc", "d.xml"), ("", 0))
 
     def test_many_namespaces_in_scope(self):
         self.write("t.rnc", "start = any\nany = element * { attribute * { text }*, any* }")
         declared = " ".join(f"xmlns:p{number}='u'" for number in range(9_000))
         self.write("d.xml", f"<a {declared}>{'<b/>' * 300_000}</a>")
         begun = processor_seconds()
-        self.assertRegex(self.judge("t.rnc", "d.xml")[0], "over a limit of this program: too many declarations of namespaces are in scope")
+        over = r"over a limit of this program: too many declarations of namespaces are in scope \(--max-attributes above 10,000\)"
+        self.assertRegex(self.judge("t.rnc", "d.xml")[0], over)
+        self.assertEqual(self.judge("--max-attributes", "20000", "t.rnc", "d.xml"), ("", 0))
         self.assertLess(processor_seconds() - begun, 20)
 
     def test_long_parts(self):
@@ -525,7 +567,8 @@ class Words(InFolder):
     def test_wrong_words(self):
         for words in ((), ("--",), ("--bogus", "s.rnc"), ("-j",), ("-j", "x", "s.rnc"), ("-j", "-1", "s.rnc"), ("--format", "xml", "s.rnc"),
                       ("--map", "x", "s.rnc"), ("--datatypes", "all", "s.rnc"), ("--datatypes=", "s.rnc"), ("--max-depth", "0", "s.rnc"), ("--max-depth", "1K", "s.rnc"),
-                      ("--max-memory", "x", "s.rnc"), ("--max-memory", "1KB", "s.rnc"), ("--max-memory=", "s.rnc"), ("--quiet", "--all", "s.rnc"), ("-", "good.xml"), ("--files-from", "-", "s.rnc", "-")):
+                      ("--max-attributes", "0", "s.rnc"),
+                      ("--max-attributes", "1000001", "s.rnc"), ("--max-attributes=1K", "s.rnc"), ("--max-attributes",), ("--max-memory", "x", "s.rnc"), ("--max-memory", "1KB", "s.rnc"), ("--max-memory=", "s.rnc"), ("--quiet", "--all", "s.rnc"), ("-", "good.xml"), ("--files-from", "-", "s.rnc", "-")):
             out, errors, status = self.run_in(RNCV_XML, *words)
             self.assertEqual((out, status), ("", 5), words)
             self.assertRegex(errors, r"^rncv-xml: .*\nusage: rncv-xml .*\n$")
