@@ -19,6 +19,7 @@ REFERENCES = ("&lt;", "&amp;", "&gt;", "&quot;", "&apos;", "&#9;", "&#10;", "&#1
 RARE = ("&u;", "&#0;", "&#x1;", "&#xD800;", "&#xFFFE;", "&#x110000;", "]]>", "<", "&", "\x01", "\x7f", "\x9f", "\ufffe", "&g", "&;", "& g;", "&#;", "&#x;",
         "&#X41;", "&#99999999999;")
 NEW_REFERENCES = ("&#1;", "&#x1F;", "&#38;#1;", "&#x85;", "&#x2028;", "&#127;", "&#x00009f;")  # of XML 1.1
+NEW_URIS = ("u&#1;", "u&#x001;", "u&#2;", "u&#127;", "u&#127;A", "u&#x7F;?", "&#38;#1;u")  # namespaces that only XML 1.1 has, some of them equal
 SHARE_1_1 = 0.1  # of the documents
 LATER = ("&#38;lt;", "&#38;g;", "&#60;b/>", "&#38;#60;", "&#60;", "&#38;", "&#x26;h;", "&#60;![CDATA[x]]>", "&#38;#9;", "&#38;#10;", "&#38;#13;", "&#38;#32;",
          "&#60;p:d/>", "&#60;b x='&#38;g;'/>")
@@ -34,7 +35,7 @@ PIECES = ("<!DOCTYPE a [", "]>", "<!--", "-->", "<![CDATA[", "]]>", "<?p ", "?>"
           "'", '"', " ", "\n", "\r", "\t", "=", "x='1'", "xmlns='u'", "xmlns:p='u'", "p:x='1'", "<b/>", "<b>", "</b>", "<!ENTITY g 'x'>",
           "<!ENTITY % m '<!--x-->'>", "<!ATTLIST a x CDATA 'd'>", "<!ATTLIST a x NMTOKENS #IMPLIED>", "<!ELEMENT a ANY>", "<!NOTATION t SYSTEM 't'>",
           "SYSTEM 's.ent'", "<?xml version='1.0'?>", "<?xml version='1.1'?>", "standalone='yes'", "\x00", "\x01", "\ufffe", "\u0085", "a:b:c", ":", "#", "%",
-          "xmlns:p=''", "xmlns:q=''", "&#1;", "\u2028", "\x7f",
+          "xmlns:p=''", "xmlns:q=''", "xmlns:q='u&#1;'", "&#1;", "\u2028", "\x7f",
           "[", "]", "(", ")", "|", ",", "*", "?", " NDATA ", " NDATA t", " SYSTEM ", " PUBLIC ", "#FIXED ", "(#PCDATA|b)*", "(v|w)", "()", "''", '""', "--",
           "<!ENTITY g SYSTEM 's.ent'>", "<!ENTITY % m SYSTEM 's.mod'>", "<!ENTITY % m ''>%m;")
 
@@ -87,9 +88,14 @@ class Maker:
     def attribute(self, name=None, value=None):
         return f"{self.blank(1)}{name or self.name(ATTRIBUTES)}{self.blank()}={self.blank()}{value or self.value()}"
 
+    def uri(self):
+        """A namespace to declare. XML 1.1 has more."""
+        if self.is_1_1 and self.is_so(0.4):
+            return self.pick(*NEW_URIS)
+        return self.pick("u", "v", "") if self.is_1_1 else self.pick("u", "v")
+
     def declaration(self):
-        uris = ("u", "v", "") if self.is_1_1 else ("u", "v")
-        return self.attribute(self.pick(*DECLARING), self.quoted(self.pick("u", "v", *URIS) if self.is_so(self.oddness) else self.pick(*uris)))
+        return self.attribute(self.pick(*DECLARING), self.quoted(self.pick("u", "v", *URIS) if self.is_so(self.oddness) else self.uri()))
 
     def attributes(self):
         made = {}
@@ -193,8 +199,7 @@ class Maker:
     def attribute_declaration(self):
         kind = self.pick(*TYPES)
         if self.is_so(0.15):
-            uris = ("u", "v", "") if self.is_1_1 else ("u", "v")
-            return f"{self.blank(1)}{self.pick(*DECLARING)} CDATA {self.pick('', '#FIXED ')}{self.quoted(self.pick(*uris))}"
+            return f"{self.blank(1)}{self.pick(*DECLARING)} CDATA {self.pick('', '#FIXED ')}{self.quoted(self.uri())}"
         return f"{self.blank(1)}{self.name(ATTRIBUTES)}{self.blank(1)}{kind}{self.blank(1)}{self.default(kind)}"
 
     def attribute_list(self):

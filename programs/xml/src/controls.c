@@ -141,6 +141,21 @@ size_t unmark_controls(char *text, size_t length, enum mark_part *part) {
     return kept;
 }
 
+size_t spell_controls(char *text, size_t length) {
+    size_t kept = 0;
+    enum mark_part part = MARK_NONE;
+    for (size_t at = 0; at < length; at++) {
+        char byte = text[at];
+        if (part != MARK_NAMED) {
+            text[kept++] = byte;
+            part = part == MARK_BEGUN ? MARK_NAMED : byte == DELETE ? MARK_BEGUN : MARK_NONE;
+        } else if (byte == DELETE) {
+            part = MARK_NONE;
+        }
+    }
+    return kept;
+}
+
 bool has_controls(struct span text) {
     bool is_found = false;
     for (size_t at = 0; at < text.length && !is_found; at++) {

@@ -40,6 +40,10 @@ bool has_control_marks(struct span text);
 /* Writes characters in the place of their marks. `part` is what was read of a mark before. Returns the new length. */
 size_t unmark_controls(char *text, size_t length, enum mark_part *part);
 
+/* Does the same for a namespace, which is only compared with others: each character becomes a delete and its letter. So what the text spells is XML 1.0, is
+ * another text for each namespace, and has a delete. */
+size_t spell_controls(char *text, size_t length);
+
 /* Whether a text without marks has a control character. */
 bool has_controls(struct span text);
 

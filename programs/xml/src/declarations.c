@@ -250,7 +250,11 @@ static void keep_default(struct declarations *declarations, const xmlChar *eleme
     struct bytes unmarked = NO_BYTES;
     enum mark_part part = MARK_NONE;
     add_unmarked((struct span){(const char *)value, strlen((const char *)value)}, &unmarked);
-    unmarked.length = declarations->feed->decoding.is_1_1 ? unmark_controls(unmarked.data, unmarked.length, &part) : unmarked.length;
+    if (declarations->feed->spells) {
+        unmarked.length = spell_controls(unmarked.data, unmarked.length);
+    } else if (declarations->feed->decoding.is_1_1) {
+        unmarked.length = unmark_controls(unmarked.data, unmarked.length, &part);
+    }
     *kept = (struct namespace_default){strdup((const char *)element), strdup((const char *)name), strdup(bytes_text(&unmarked))};
     bool is_lost = unmarked.failed;
     bytes_free(&unmarked);

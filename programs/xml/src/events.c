@@ -268,8 +268,8 @@ static bool has_room(struct reader *reader, void **items, size_t count, size_t *
     return true;
 }
 
-/* Adds a value with blanks and control characters in the place of their marks. False: it has no marks, and is not added. */
-static bool unmark(const struct reader *reader, struct span value, struct bytes *to) {
+/* Adds a value with blanks and control characters, or their spellings, in the place of their marks. False: it has no marks, and is not added. */
+static bool unmark(const struct reader *reader, struct span value, bool spells, struct bytes *to) {
     bool has_blanks = reader->declarations.has_marks && has_blank_marks(value);
     bool is_marked = reader->feed.controls.has_marks && has_control_marks(value);
     size_t begin = to->length;
@@ -280,7 +280,8 @@ static bool unmark(const struct reader *reader, struct span value, struct bytes 
         bytes_add(to, value.data, value.length);
     }
     if (is_marked && !to->failed) {
-        to->length = begin + unmark_controls(to->data + begin, value.length, &part);
+        char *text = to->data + begin;
+        to->length = begin + (spells ? spell_controls(text, value.length) : unmark_controls(text, value.length, &part));
     }
     return has_blanks || is_marked;
 }
@@ -288,7 +289,7 @@ static bool unmark(const struct reader *reader, struct span value, struct bytes 
 /* The URI of a namespace without marks, in the dictionary. */
 static const xmlChar *unmarked_uri(struct reader *reader, const xmlChar *uri) {
     struct bytes text = NO_BYTES;
-    if (!unmark(reader, span_of(uri), &text)) {
+    if (!unmark(reader, span_of(uri), reader->feed.spells, &text)) {
         return uri;
     }
     reader->has_marked_uri = true;
@@ -406,7 +407,7 @@ static void clear_values(struct reader *reader, int count, const xmlChar **attri
 static struct span unmarked(struct reader *reader, struct span value) {
     const struct bytes *values = &reader->values;
     size_t begin = values->length;
-    if (!unmark(reader, value, &reader->values)) {
+    if (!unmark(reader, value, false, &reader->values)) {
         return value;
     }
     struct span found = {values->data + begin, values->length - begin};
@@ -527,7 +528,8 @@ static bool has_control_in_namespace(const struct start_event *start) {
 /* Reads the tag by the rules of XML 1.1. */
 static void read_1_1(struct reader *reader, struct start_event *start) {
     if (reader->feed.controls.has_marks && has_control_in_namespace(start)) {
-        fault_set(reader->fault, FAULT_OUTSIDE, place_of(start->position), "a namespace with a control character by a reference: outside the profile");
+        fault_set(reader->fault, FAULT_OUTSIDE, place_of(start->position), "%s",
+                  reader->sink.spells == NULL ? control_character : "a namespace with a control character of XML 1.1, and the schema has one with U+007F: outside the profile");
     }
     take_withdrawn(reader, start);
 }
@@ -1074,6 +1076,7 @@ static void read_by_libxml2(struct reader *reader) {
 static void use_marks(void *context) {
     struct reader *reader = context;
     xmlSAXHandler *handlers = reader->feed.parser->sax;
+    reader->feed.spells = reader->sink.spells != NULL && reader->sink.spells(reader->sink.context);
     handlers->characters = take_marked_text;
     handlers->ignorableWhitespace = take_marked_text;
     handlers->cdataBlock = take_marked_text;

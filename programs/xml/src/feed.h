@@ -45,6 +45,7 @@ struct feed {
     uint64_t next;      /* the offset of the markup or the text that is being read */
     struct tag_scan scan;
     struct control_scan controls; /* in a document of XML 1.1 */
+    bool spells;        /* marks in namespaces are spelled (spell_controls), and do not become characters */
     struct bytes room;  /* where the document's bytes are read */
     uint64_t long_at;   /* the offset of markup that is so long that its beginning is not kept, .. */
     struct place long_place;

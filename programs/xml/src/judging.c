@@ -1,7 +1,6 @@
 #include "judging.h"
 
 #include "finding.h"
-#include "schema_controls.h"
 #include "second_reading.h"
 #include "telling.h"
 
@@ -547,20 +546,22 @@ static size_t held(const void *context) {
     return id_check_held(&judge->ids) + scope_held(&judge->scope) + text;
 }
 
-/* Lets the library get other characters for control characters, unless the schema may tell them apart. */
-static const char *take_control(void *context) {
+/* Whether the schema has no namespace like those that the library gets for the ones with control characters. */
+static bool spells(void *context) {
     struct judging *judging = context;
     struct judge *judge = judging->judge;
-    bool tells = false;
-    if (judge->controls == CONTROLS_NOT_KNOWN && !schema_controls_read(&judge->asked, &tells)) {
+    if (!judge->controls.is_known && !schema_controls_read(&judge->asked, &judge->controls)) {
         out_of_memory(judging);
-        return NULL;
     }
-    judge->controls = judge->controls != CONTROLS_NOT_KNOWN ? judge->controls : tells ? CONTROLS_TOLD : CONTROLS_ONE;
+    return !judge->controls.has_in_spaces;
+}
+
+/* Lets the library get other characters for control characters, unless the schema may tell them apart. */
+static const char *take_control(void *context) {
+    struct judge *judge = ((struct judging *)context)->judge;
     judge->room.has_controls = true;
-    return judge->controls == CONTROLS_ONE
-               ? NULL
-               : "a control character by a reference, and the schema has a pattern or value that may be about it: outside the profile";
+    return judge->controls.tells_texts ? "a control character by a reference, and the schema has a pattern or value that may be about it: outside the profile"
+                                       : NULL;
 }
 
 static void take_note(void *context, struct place place, const char *what) {
@@ -706,7 +707,7 @@ static void answer_all(struct judging *judging) {
 
 static void read_source(struct judging *judging, const struct byte_source *source) {
     const struct shared *shared = judging->judge->shared;
-    struct event_sink sink = {take_start, take_text, take_end, take_instruction, take_note, NULL, keep, held, take_control, judging, true, false, shared->depth,
+    struct event_sink sink = {take_start, take_text, take_end, take_instruction, take_note, NULL, keep, held, take_control, spells, judging, true, false, shared->depth,
                               shared->memory, shared->attributes};
     read_events(source, &sink, judging->fault);
 }

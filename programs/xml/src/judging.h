@@ -6,6 +6,7 @@
 #include "id_check.h"
 #include "library_calls.h"
 #include "program.h"
+#include "schema_controls.h"
 #include "scope.h"
 #include "shown.h"
 
@@ -105,15 +106,12 @@ struct open_name {
     struct span local;
 };
 
-/* Whether the schema may tell control characters of XML 1.1 from those that the library gets instead. */
-enum controls { CONTROLS_NOT_KNOWN, CONTROLS_ONE, CONTROLS_TOLD };
-
 /* A judge: one for each thread. */
 struct judge {
     struct shared *shared;
     rncv_schema schema;
     rncv_schema asked; /* another handle on it, for questions while a document is in progress */
-    enum controls controls;
+    struct schema_controls controls; /* of its schema */
     struct declared declared; /* the attributes of the schema */
     struct scope scope; /* the namespaces that are declared at the last start; once the document is invalid, there */
     struct call_room room;

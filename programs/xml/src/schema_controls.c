@@ -23,11 +23,6 @@ static bool has_range(struct span text) {
     return is_found;
 }
 
-static bool tells_by(const struct bytes *literal, bool is_expression) {
-    struct span text = {literal->data, literal->length};
-    return text.length > 0 && (memchr(text.data, INSTEAD_OF_CONTROL, text.length) != NULL || (is_expression && has_range(text)));
-}
-
 /* Takes a literal off the tokens, with the parts that are joined to it. `token` becomes the one behind it. */
 static void take_literal(struct tokens *tokens, struct token *token, struct bytes *literal) {
     bytes_clear(literal);
@@ -41,39 +36,59 @@ static void take_literal(struct tokens *tokens, struct token *token, struct byte
     }
 }
 
+/* What the last tokens are: a parameter `pattern` up to its value, or the declaration of a prefix up to its namespace. */
+enum before { BEFORE_OTHERS, BEFORE_PATTERN, BEFORE_EXPRESSION, BEFORE_NAMESPACE, BEFORE_PREFIX, BEFORE_URI };
+
+static enum before behind(enum before before, const struct token *token) {
+    if (before == BEFORE_NAMESPACE) {
+        return BEFORE_PREFIX;
+    }
+    if (is_sign(token, '=')) {
+        return before == BEFORE_PATTERN ? BEFORE_EXPRESSION : before == BEFORE_PREFIX ? BEFORE_URI : BEFORE_OTHERS;
+    }
+    return is_word(token, "pattern") ? BEFORE_PATTERN : is_word(token, "namespace") ? BEFORE_NAMESPACE : BEFORE_OTHERS;
+}
+
+static void take(struct schema_controls *controls, const struct bytes *literal, enum before before) {
+    struct span text = {literal->data, literal->length};
+    bool has_delete = text.length > 0 && memchr(text.data, INSTEAD_OF_CONTROL, text.length) != NULL;
+    controls->has_in_spaces |= has_delete && before == BEFORE_URI;
+    controls->tells_texts |= before != BEFORE_URI && (has_delete || (before == BEFORE_EXPRESSION && has_range(text)));
+}
+
 /* Looks at each literal of so many bytes. False: out of memory. */
-static bool search(struct tokens *tokens, size_t length, bool *tells) {
+static bool search(struct tokens *tokens, size_t length, struct schema_controls *controls) {
     struct bytes literal = NO_BYTES;
-    bool is_pattern = false;    /* the token before is this word, .. */
-    bool is_expression = false; /* .. or `=` behind it */
+    enum before before = BEFORE_OTHERS;
     struct token token = tokens_next(tokens);
-    while (token.kind != TOKEN_NONE && !*tells && !literal.failed) {
+    while (token.kind != TOKEN_NONE && !literal.failed) {
         if (token.kind == TOKEN_LITERAL) {
             take_literal(tokens, &token, &literal);
-            *tells = tells_by(&literal, is_expression);
-            is_expression = false;
+            take(controls, &literal, before);
+            before = BEFORE_OTHERS;
         } else {
-            is_expression = is_pattern && is_sign(&token, '=');
-            is_pattern = is_word(&token, "pattern");
+            before = behind(before, &token);
             token = tokens_next(tokens);
         }
     }
     bool is_good = !literal.failed;
-    *tells |= token.at < length; /* nothing is a token there */
+    bool is_strange = token.at < length; /* nothing is a token there */
+    controls->tells_texts |= is_strange;
+    controls->has_in_spaces |= is_strange;
     bytes_free(&literal);
     return is_good;
 }
 
-bool schema_controls_read(rncv_schema *schema, bool *tells) {
+bool schema_controls_read(rncv_schema *schema, struct schema_controls *controls) {
     struct tokens tokens;
     uint8_t *form = NULL;
     size_t length = 0;
-    *tells = false;
+    *controls = (struct schema_controls){false, false, false};
     if (schema_form(schema, &form, &length) != RNCV_DONE) {
         return false;
     }
-    bool is_good = tokens_open(&tokens, (const char *)form, length) && search(&tokens, length, tells);
+    controls->is_known = tokens_open(&tokens, (const char *)form, length) && search(&tokens, length, controls);
     tokens_close(&tokens);
     free(form);
-    return is_good;
+    return controls->is_known;
 }

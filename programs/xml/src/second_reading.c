@@ -40,6 +40,7 @@ struct second_pass {
     size_t held;                /* the bytes of the open elements but the innermost */
     struct hint *hints;         /* in the order of their places */
     size_t count, most;
+    bool spells; /* as the first reading: namespaces with control characters are other ones */
     size_t told; /* how many were told, also of those that are not kept */
     uint32_t capacity;
 };
@@ -342,9 +343,15 @@ static const char *take_control(void *context) {
     return NULL;
 }
 
+/* The first reading has asked the schema. */
+static bool spells(void *context) {
+    const struct second_pass *pass = context;
+    return pass->spells;
+}
+
 static void read_again(struct second_pass *pass, const struct shared *shared, const struct byte_source *source) {
     struct fault fault = NO_FAULT;
-    struct event_sink sink = {take_start, take_text, take_end, take_instruction, take_note, NULL, NULL, held, take_control, pass, true, false, shared->depth,
+    struct event_sink sink = {take_start, take_text, take_end, take_instruction, take_note, NULL, NULL, held, take_control, spells, pass, true, false, shared->depth,
                               shared->memory, shared->attributes};
     pass->fault = &fault;
     read_events(source, &sink, &fault);
@@ -373,7 +380,8 @@ void second_reading(struct judge *judge, const struct byte_source *source, uint6
     if (judge->second == NULL || !judge->second->is_there) {
         return;
     }
-    struct second_pass pass = {.second = judge->second, .first = answer, .first_number = number, .most = judge->shared->most_faults - 1};
+    struct second_pass pass = {.second = judge->second, .first = answer, .first_number = number, .most = judge->shared->most_faults - 1,
+                               .spells = judge->controls.is_known && !judge->controls.has_in_spaces};
     read_again(&pass, judge->shared, source);
     give_hints(&pass, answer);
 }

@@ -260,6 +260,23 @@ class Controls(InFolder):
             'd.xml:2:1: invalid: attribute x of <a> is wrong ("\\x01\\x7f\\x1f"); expected "v"\n'
             'd.xml:3:4: hint: the text of <b> is no xsd:integer ("1\\x02")\nd.xml:5:2: hint: the text of <b> is no xsd:integer ("\\x0c")\n', "", 1))
 
+    def test_namespaces(self):
+        """One with such a character is another namespace than each of the schema, also for hints, unless the schema has one with U+007F."""
+        schema = 'namespace u = "{}"\nelement a {{ element u:b {{ attribute x {{ xsd:integer }}? }}*, element * - u:* {{ attribute u:x {{ "1" }}? }}* }}'
+        self.write("c.rnc", schema.format("u"))
+        self.write("d.xml", '<?xml version="1.1"?>\n<a xmlns:p="u&#1;" xmlns:q="u" xmlns:r="u&#x7F;A">\n<q:b/><p:b p:x="1"/>\n<r:c q:x="1" r:x="1"/><p:d q:x="2"/></a>')
+        self.assertEqual(self.run_in(RNCV_XML, "c.rnc", "d.xml"), (
+            "d.xml:3:7: invalid: attribute p:x is not allowed in <p:b>; expected q:x\nd.xml:4:1: hint: attribute r:x is not allowed in <r:c>\n"
+            'd.xml:4:23: hint: attribute q:x of <p:d> is wrong ("2"); expected "1"\n', "", 1))
+        self.write("d.xml", '<?xml version="1.1"?>\n<a xmlns:p="u&#1;" xmlns:q="u">\n<p:c/><q:b x="1"/></a>')
+        self.assertEqual(self.run_in(RNCV_XML, "c.rnc", "d.xml"), ("d.xml:3:7: invalid: <q:b> is not allowed here; expected any element (with exceptions)\n", "", 1))
+        self.write("c.rnc", schema.format("u\\x{7F}A"))
+        self.assertEqual(self.run_in(RNCV_XML, "c.rnc", "d.xml"), (
+            "d.xml:2:1: a namespace with a control character of XML 1.1, and the schema has one with U+007F: outside the profile\n", "", 2))
+        self.write("d.xml", '<?xml version="1.1"?>\n<a xmlns:q="u&#127;A"><q:b x="v&#1;"/><q:c/></a>')
+        self.assertEqual(self.run_in(RNCV_XML, "c.rnc", "d.xml"), (
+            'd.xml:2:23: invalid: attribute x of <q:b> is no xsd:integer ("v\\x01")\nd.xml:2:39: hint: <q:c> is not allowed here; expected <q:b> or any element (with exceptions)\n', "", 1))
+
     def test_pieces(self):
         """A reference that a piece of the document cuts is read as another."""
         self.write("c.rnc", 'element a { xsd:string { pattern = "x*.é*" }, attribute y { xsd:string { pattern = ".é" } }? }')
