@@ -556,6 +556,13 @@ static void count_open(struct reader *reader) {
     }
 }
 
+/* Refuses a tag with too many attributes and declarations of its own that came at once. */
+static void check_width(struct reader *reader, size_t count) {
+    if (count > reader->feed.most_attributes) {
+        feed_refuse(&reader->feed, place_of(reader->start.position), too_many_attributes, reader->feed.most_attributes, "--max-attributes");
+    }
+}
+
 /* How many open namespaces libxml2 looks at for the names of a tag. */
 static uint64_t searched_for(const struct reader *reader, int attribute_count) {
     return ((uint64_t)attribute_count + 1) * (uint64_t)reader->feed.parser->nsNr / 2;
@@ -604,6 +611,7 @@ static OUT_OF_LINE void take_any_start(void *context, const xmlChar *local, cons
         set_other_tag(reader);
     }
     count_open(reader);
+    check_width(reader, (size_t)(attribute_count - default_count) + (size_t)namespace_count);
     count_costs(reader, attribute_count, default_count, attributes);
     add_attributes(reader, start, attribute_count, attributes);
     start->name = name_of(reader, local, prefix, uri);
@@ -670,7 +678,8 @@ static OUT_OF_LINE void take_full_start(void *context, const xmlChar *local, con
     if (!is_good(reader)) {
         return;
     }
-    if (is_usual_start(reader, is_named, namespace_count, default_count, attribute_count) &&
+    bool is_narrow = (size_t)attribute_count <= reader->feed.most_attributes;
+    if (is_narrow && is_usual_start(reader, is_named, namespace_count, default_count, attribute_count) &&
         set_known_attributes(reader, (size_t)attribute_count, attributes)) {
         hand_usual_start(reader, &reader->names.slots[place].name, attribute_count);
     } else {
@@ -850,11 +859,23 @@ static void take_unparsed(void *context, const xmlChar *name, const xmlChar *pub
     move_on(reader);
 }
 
+/* Refuses a declaration with too many choices that came at once. */
+static void check_choices(struct reader *reader, const xmlEnumeration *choices) {
+    size_t count = 0;
+    for (const xmlEnumeration *at = choices; at != NULL; at = at->next) {
+        count++;
+    }
+    if (count > reader->feed.most_attributes) {
+        feed_refuse(&reader->feed, declarations_place(&reader->declarations), too_many_choices, reader->feed.most_attributes, "--max-attributes");
+    }
+}
+
 static void take_attribute(void *context, const xmlChar *element, const xmlChar *name, int type, int kind, const xmlChar *value, xmlEnumerationPtr choices) {
     struct reader *reader = context;
     (void)type;
     (void)kind;
     declarations_attribute(&reader->declarations, element, name, value);
+    check_choices(reader, choices);
     reader->is_unusual = true;
     xmlFreeEnumeration(choices);
     move_on(reader);

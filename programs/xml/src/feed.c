@@ -240,7 +240,10 @@ void feed_refuse(struct feed *feed, struct place place, const char *what, uint64
     bytes_add_count(&count, most);
     bytes_format(&words, what, bytes_text(&count));
     const char *text = bytes_text(&words);
-    fault_set(feed->fault, words.failed ? FAULT_MEMORY : FAULT_OUTSIDE, place, "over a limit of this program: %s (%s)", text, option);
+    if (count.failed || words.failed) {
+        fault_set(feed->fault, FAULT_MEMORY, (struct place){0, 0}, "out of memory");
+    }
+    fault_set(feed->fault, FAULT_OUTSIDE, place, "over a limit of this program: %s (%s)", text, option);
     bytes_free(&count);
     bytes_free(&words);
 }

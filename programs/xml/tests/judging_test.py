@@ -244,6 +244,11 @@ class Lines(InFolder):
             self.write("d.xml", "<a " + " ".join(f'a{number}=""' for number in range(count)) + "/>")
             over = f"d.xml:1:1: over a limit of this program: a tag has more than {most} attributes and declarations (--max-attributes)\n"
             self.assertEqual(self.judge(*words, "t.rnc", "d.xml"), (over, 2) if most else ("", 0), (count, words))
+        over = "over a limit of this program: a tag has more than 2 attributes and declarations (--max-attributes)"
+        for tags, column in (("<a x='' y=''/>", 0), ("<a xmlns:p='u' x=''/>", 0), ("<!-- --><a xmlns:p='u' x='' p:y=''/>", 9), ("<!-- --><a x='' y='' z=''/>", 9),
+                             ("<!DOCTYPE a [<!ATTLIST a z CDATA ''>]><a x='' y=''/>", 0)):
+            self.write("d.xml", tags)
+            self.assertEqual(self.judge("--max-attributes", "2", "t.rnc", "d.xml"), (f"d.xml:1:{column}: {over}\n", 2) if column else ("", 0), tags)
 
     def test_a_wide_tag_that_is_invalid(self):
         """What is wrong with a tag of many attributes is told at its place, also as a hint."""
@@ -273,6 +278,10 @@ class Lines(InFolder):
             self.assertRegex(line, rf"^d\.xml:1:\d+: over a limit of this program: {what} \(--max-attributes{option}\)\n$")
             self.assertEqual(status, 2)
             self.assertEqual(self.judge("--max-attributes", "10001", "t.rnc", "d.xml"), ("", 0), what)
+        self.write("d.xml", "<!DOCTYPE a [\n<!ATTLIST a x (p|q) 'p'>]><a/>")
+        self.assertEqual(self.judge("--max-attributes", "1", "t.rnc", "d.xml"), (
+            "d.xml:2:1: over a limit of this program: a declaration of attributes has more than 1 choices (--max-attributes)\n", 2))
+        self.assertEqual(self.judge("--max-attributes", "2", "t.rnc", "d.xml"), ("", 0))
 
     def test_many_defaults(self):
         """What defaults give beyond the document's length is limited. The option raises that by its square."""
