@@ -97,7 +97,7 @@ enum {
     RNCV_XML_VALID = 1,
     RNCV_XML_INVALID = 2,
     RNCV_XML_MALFORMED = 3, /* it is not well-formed XML, or breaks Namespaces in XML (`clause`) */
-    RNCV_XML_OUTSIDE = 4    /* something in it is outside the profile, or over a limit: 10,000 open elements, 512 MiB that are held of it */
+    RNCV_XML_OUTSIDE = 4    /* something in it is outside the profile, or over a limit: 10,000 open elements, 10,000 attributes of one, 512 MiB held of it */
 };
 
 /* What is at the place of an invalid document. */
