@@ -168,8 +168,9 @@ class Reader:
     def _assigns(self, token: Token) -> bool:
         """Whether a definition begins here."""
         following = self._next()
-        is_sign = following.kind == SIGN and following.text in ASSIGNMENTS
-        return is_sign and (token.is_identifier or (token.kind == WORD and token.text == "start"))
+        if following.kind != SIGN or following.text not in ASSIGNMENTS:
+            return False
+        return token.is_identifier or (token.kind == WORD and token.text == "start")
 
     def _has_value(self) -> bool:
         """Whether a literal follows a name and `=`, or is not there yet: then the end or another name with `=` follows."""

@@ -60,26 +60,36 @@ def shown_of(text: str) -> Tuple[str, Optional[List[int]]]:
 def lexed(text: str, has_end: Callable[[int], bool] = lambda place: False) -> Lexed:
     """The tokens of a text; up to three quotes that have no end in it, if they have one behind it."""
     shown, offsets = shown_of(text) if "\\x" in text else (text, None)
-    found: List[Token] = []
-    comments: List[Tuple[int, int]] = []
-    open_quotes: List[int] = []
-    search, at = LOOSE.search, 0
-    while match := search(shown, at):
-        kind, words, (start, at) = match.lastgroup or "", match[0], match.span()
-        is_open = kind == LITERAL and at == start + 2 and shown[at:at + 1] == words[0]  # an empty literal, and a quote
-        if is_open and (end := shown.find(3 * words[0], at + 1)) >= 0:
-            is_open, at = False, end + 3
-            words = shown[start:at]
-        start, end = (start, at) if offsets is None else (offsets[start], offsets[at])
-        if is_open:
-            open_quotes.append(start)
+    found, at = Lexed([], [], []), 0
+    while at >= 0:
+        at = take_tokens(shown, at, found, lambda start: has_end(start if offsets is None else offsets[start]))
+    return found if offsets is None else placed(found, offsets)
+
+
+def take_tokens(shown: str, at: int, found: Lexed, has_end: Callable[[int], bool]) -> int:
+    """Takes the tokens from a place to the first literal in three quotes that has an end, and returns where that is; -1 behind the last token."""
+    add = found.tokens.append
+    for match in LOOSE.finditer(shown, at):
+        kind, words, (start, end) = match.lastgroup or "", match[0], match.span()
+        if kind == LITERAL and end == start + 2 and shown[end:end + 1] == words[0]:  # an empty literal, and a quote
+            last = shown.find(3 * words[0], end + 1) + 3
+            if last > 2:
+                add(Token(kind, shown[start:last], start, last))
+                return last
+            found.open.append(start)
             if has_end(start):
-                break
+                return -1
         if kind == "comment":
-            comments.append((start, end))
+            found.comments.append((start, end))
         else:
-            found.append(Token(kind, words if kind != QUOTED else words[1:], start, end))
-    return Lexed(found, comments, open_quotes)
+            add(Token(kind, words if kind != QUOTED else words[1:], start, end))
+    return -1
+
+
+def placed(found: Lexed, offsets: List[int]) -> Lexed:
+    """The tokens of a text whose escapes were replaced, at their places in the text as it is written."""
+    return Lexed([Token(kind, words, offsets[start], offsets[end]) for kind, words, start, end in found.tokens],
+                 [(offsets[start], offsets[end]) for start, end in found.comments], [offsets[start] for start in found.open])
 
 
 def go_on(found: Lexed, at: int, text: str, has_end: Callable[[int], bool]) -> None:
