@@ -9,7 +9,7 @@ from typing import Any, Callable, Dict, List, Optional, Set, Tuple
 from rncv_lsp import DATATYPES, USUAL_FAULTS
 from rncv_lsp.documents import Document, Documents, uri_of
 from rncv_lsp.findings import INFORMATION, Finding, diagnostic
-from rncv_lsp.jobs import Job, Jobs, look_for_cycles, start_thread
+from rncv_lsp.jobs import IDLE, Job, Jobs, look_for_cycles, start_thread
 from rncv_lsp.outside import rncv
 from rncv_lsp.publishing import Publisher
 from rncv_lsp.rpc import Connection, described
@@ -93,6 +93,7 @@ class Coordinator:
         """Judges again and again."""
         while True:
             self._wait()
+            IDLE.wait()
             try:
                 self._go_over()
             except Exception as error:  # whatever happens, the server continues

@@ -21,27 +21,39 @@ def start_thread(action: Job, name: str) -> None:
         threading.stack_size(before)
 
 
-def look_for_cycles() -> None:
-    """Looks for new objects in cycles now, so that the interpreter seldom does so within an answer; at times for those that are not so new, too."""
-    gc.collect(int(gc.get_count()[1] > MOST_LOOKS))
-
-
 class Idle:
-    """Whether the thread that reads messages has nothing to do. It does what it has to do within this object, and another thread waits for its end."""
+    """Whether the thread that reads messages has nothing to do. It does what it has to do within this object, and other threads wait for its end."""
 
     def __init__(self) -> None:
         self._is_idle = threading.Event()
         self._is_idle.set()
+        self._thread = 0
 
     def __enter__(self) -> None:
+        self._thread = threading.get_ident()
         self._is_idle.clear()
 
     def __exit__(self, *why: object) -> None:
         self._is_idle.set()
 
     def wait(self) -> None:
-        """Waits until it has nothing to do."""
-        self._is_idle.wait()
+        """Waits until it has nothing to do. A thread that waits must have no lock that it may want. It does not wait for itself."""
+        if threading.get_ident() != self._thread:
+            self._is_idle.wait()
+
+
+IDLE = Idle()
+
+
+def look_for_cycles() -> None:
+    """Looks for new objects in cycles now, so that the interpreter seldom does so within an answer; at times for those that are not so new, too."""
+    IDLE.wait()
+    gc.collect(int(gc.get_count()[1] > MOST_LOOKS))
+
+
+def keep_objects() -> None:
+    """Says that the objects that are there now will stay for long, so that no look for cycles goes through them."""
+    gc.freeze()
 
 
 class Jobs:

@@ -5,7 +5,7 @@ import itertools
 from typing import Any, Callable, Dict, List, Optional, Union
 
 from rncv_lsp.documents import SCHEMA_LANGUAGES, Document, Documents
-from rncv_lsp.jobs import Idle, look_for_cycles
+from rncv_lsp.jobs import IDLE, keep_objects
 from rncv_lsp.rnc_ahead import ahead
 from rncv_lsp.rnc_completion import completion
 from rncv_lsp.rnc_grammars import Grammars, Outlines
@@ -93,12 +93,12 @@ class SchemaRequests:
         """Reads a schema that was opened, and the files that it reaches, so that the first answer takes no longer than others."""
         self._opened.append(self._grammars().outlines.get(document.key) or Outline(Text()))
 
-    def prepare(self, idle: Idle) -> None:
+    def prepare(self) -> None:
         """Gets ready what is asked of schemas that were opened, part by part, while nothing is asked. Only one thread at a time does that."""
         while self._opened:
             for _ in ahead(self._opened.pop(), self._documents.encoding):
-                idle.wait()
-            look_for_cycles()
+                IDLE.wait()
+            keep_objects()
 
     def _grammars(self) -> Grammars:
         """The grammars of the schemas that are open."""

@@ -5,9 +5,12 @@ import dataclasses
 import functools
 from typing import Iterator, Optional, Sequence, Tuple
 
+from rncv_lsp.jobs import IDLE
 from rncv_lsp.outside import ESCAPE, TOKEN, NoToken, Token, meaning, tokens
 
 FILE_BYTES = 1_048_576
+# Behind so many tokens the thread gives way to the one that answers.
+SOME_TOKENS = 256
 
 
 @dataclasses.dataclass(frozen=True)
@@ -22,10 +25,22 @@ class Mention:
 @functools.lru_cache(maxsize=4)
 def tokens_of(text: str) -> Tuple[Token, ...]:
     """The tokens of a text. If no token begins at a character, the character is skipped, so that a file that is being edited keeps its mentions."""
+    if "\\x" not in text:
+        return tuple(plain_tokens(text))
     try:
         return tuple(tokens(text)[0])
     except NoToken:
         return tuple(loose_tokens(text))
+
+
+def plain_tokens(text: str, gives_way: bool = False) -> Iterator[Token]:
+    """The tokens of a text without escapes. The thread gives way to the one that answers, if it has no lock and is told so."""
+    for number, found in enumerate(TOKEN.finditer(text)):
+        kind = found.lastgroup or ""
+        if kind != "blank":
+            yield Token(kind, meaning(kind, found[0]), *found.span())
+        if gives_way and number % SOME_TOKENS == 0:
+            IDLE.wait()
 
 
 def loose_tokens(text: str) -> Iterator[Token]:
@@ -57,7 +72,7 @@ def mentions_of(text: str) -> Tuple[Mention, ...]:
     if not ("include" in text or "external" in text or "\\x" in text):
         return ()
     depth, mentions = 0, []
-    found = tokens_of(text)
+    found = tokens_of(text) if "\\x" in text else list(plain_tokens(text, True))
     for index, token in enumerate(found):
         depth += token.is_sign("[") - token.is_sign("]")
         mention = literal_at(found, index + 1) if depth == 0 and token.is_keyword("include", "external") else None

@@ -8,7 +8,7 @@ from rncv_lsp import DATATYPES, USUAL_FAULTS
 from rncv_lsp.coordinator import Coordinator
 from rncv_lsp.documents import Documents, new_document, path_of
 from rncv_lsp.framing import FramingFault, MessageReader
-from rncv_lsp.jobs import Idle
+from rncv_lsp.jobs import IDLE
 from rncv_lsp.parts import joined_capabilities, joined_requests
 from rncv_lsp.rnc_requests import SchemaRequests
 from rncv_lsp.rpc import INTERNAL_ERROR, INVALID_REQUEST, NOT_INITIALIZED, PARSE_ERROR, Connection, Dispatcher, RpcFault, member, within
@@ -34,7 +34,6 @@ class Server:
         self._coordinator = Coordinator(self._documents, self._connection, datatypes, most_faults)
         self._answers = XmlAnswers(self._documents, self._coordinator)
         self._schemas = SchemaRequests(self._documents, lambda: self._coordinator.settings.datatypes or datatypes)
-        self._idle = Idle()
         self._parts = (self._schemas, self._answers)
         self._state = "new"
         self._asks_settings = False
@@ -67,7 +66,7 @@ class Server:
         try:
             data = self._reader.read()
             if data is not None:
-                with self._idle:
+                with IDLE:
                     self._reader.is_lost = not self._dispatcher.take(data)
             return data is not None
         except FramingFault as fault:
@@ -127,7 +126,7 @@ class Server:
         self._coordinator.touch(document)
         if document.is_schema:
             self._schemas.read(document)
-            self._coordinator.run_beside("schemas", lambda: self._schemas.prepare(self._idle))
+            self._coordinator.run_beside("schemas", self._schemas.prepare)
 
     def _changed(self, params: Any) -> None:
         """A document has changed."""
