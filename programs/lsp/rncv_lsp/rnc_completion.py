@@ -2,8 +2,9 @@
 from __future__ import annotations
 
 import bisect
+import json
 import re
-from typing import Any, Dict, Iterable, List, NamedTuple, Optional, Tuple
+from typing import Iterable, List, NamedTuple, Optional, Tuple
 
 from rncv_lsp.outside import KEYWORDS
 from rncv_lsp.rnc_grammars import Node
@@ -14,6 +15,7 @@ from rncv_lsp.rnc_states import CLASS, CONTENT, PARAMS, SQUARE
 from rncv_lsp.rnc_symbols import has_letters
 from rncv_lsp.rnc_tokens import DOC, NOTHING, OPEN, WORD, lexed
 from rncv_lsp.rnc_types import datatypes_of, parameters_of
+from rncv_lsp.rpc import Written
 
 TYPED = re.compile(r"\\?[-.\w]*(?::[-.\w]*)?\Z")
 LONGEST = 200
@@ -60,22 +62,29 @@ def spot_of(asked: Asked) -> Optional[Spot]:
     return Spot(reader, begin + len(before), typed)
 
 
-def completion(asked: Asked, is_profile: bool) -> Optional[Dict[str, Any]]:
+def completion(asked: Asked, is_profile: bool) -> Optional[Written]:
     """What can be written at the offset."""
     spot = spot_of(asked) if asked.grammars.outlines[asked.key].parts else None
     if spot is None:
         return None
-    place = asked.grammars.files[asked.key].lines.range(spot.start, asked.offset, asked.encoding)
+    place = asked.lines(asked.key).written(spot.start, asked.offset)
     every = list(dict.fromkeys(items(asked, spot, is_profile)))
     found = fitting(every, spot.typed.lstrip("\\")) if len(every) > MOST_NAMES else every
-    return {"isIncomplete": found is not every, "items": [{"label": text, "kind": kind, "textEdit": {"range": place, "newText": text}} for text, kind in found]}
+    shown = ",".join([written_item(json.dumps(text), kind, place) for text, kind in found])
+    return Written(f'{{"isIncomplete":{json.dumps(found is not every)},"items":[{shown}]}}')
+
+
+def written_item(text: str, kind: int, place: str) -> str:
+    """An item as JSON, with its text and its place in JSON."""
+    return f'{{"label":{text},"kind":{kind},"textEdit":{{"range":{place},"newText":{text}}}}}'
 
 
 def fitting(every: List[Item], typed: str) -> List[Item]:
     """Those of many items that have the letters that are typed, and not all names. Those that begin with what is typed come first."""
-    found = [item for item in every if has_letters(item[0], typed)]
-    first = [item for item in found if item[1] == NAME and item[0].startswith(typed)]
-    then = [item for item in found if item[1] == NAME and not item[0].startswith(typed)]
+    found = [item for item in every if has_letters(item[0], typed)] if typed else every
+    names = [item for item in found if item[1] == NAME]
+    first = [item for item in names if item[0].startswith(typed)]
+    then = [item for item in names if not item[0].startswith(typed)]
     return [*[*first, *then][:MOST_NAMES], *(item for item in found if item[1] != NAME)]
 
 

@@ -177,7 +177,7 @@ def is_nested(outline: Outline) -> bool:
         nesting = part.scan.nesting
         if nesting is None or len(path) + nesting.depth >= MOST_DEPTH:
             return False
-        if any(not path or path.pop() != PARTNERS[sign] for sign in nesting.closing):
+        if nesting.closing and any(not path or path.pop() != PARTNERS[sign] for sign in nesting.closing):
             return False
         path += nesting.opening
     return not path
@@ -198,9 +198,9 @@ def part_by_part(outline: Outline) -> Iterator[Tuple[int, Part, Indented, str]]:
     for number, (begin, part) in enumerate(outline.placed() if is_nested(outline) else ()):
         found, blanks = indented_part(part, around_of(outline, number), levels, begin)
         yield begin, part, found, blanks
-        first, *inner = found.left
-        levels[-len(found.used):] = [levels[-len(found.used)]._replace(item=blanks + first.item, end=first.end + begin, hangs=first.hangs),
-                                     *(Level(blanks + each.outside, blanks + each.inside, blanks + each.item, each.end + begin, each.hangs) for each in inner)]
+        first, outermost = found.left[0], levels[-len(found.used)]
+        levels[-len(found.used):] = [Level(outermost.outside, outermost.inside, blanks + first.item, first.end + begin, first.hangs)]
+        levels += [Level(blanks + each.outside, blanks + each.inside, blanks + each.item, each.end + begin, each.hangs) for each in found.left[1:]]
 
 
 def edits(found: List[Line], lines: Lines, first: int, last: Optional[int]) -> Written:
@@ -212,14 +212,17 @@ def edits(found: List[Line], lines: Lines, first: int, last: Optional[int]) -> W
 
 
 def around_of(outline: Outline, number: int) -> Around:
-    """What is around a part with this number."""
-    begin, length = outline.starts[number], outline.parts[number].length
-    behind = BLANKS.match(outline.lines.text, begin + length).end() - begin  # type: ignore[union-attr]
-    definitions = tuple([(opened.name_start, end) for opened, end in outline.spans_in(number) if opened.kind in (DEFINE, START)])
-    following = outline.parts[number + 1].opened if number + 1 < len(outline.parts) else []
-    starts = (opened.name_start for opened in following if opened.kind in (DEFINE, START))
-    is_definition_behind = next(starts, -1) == behind - length
-    return Around(definitions, behind, is_definition_behind, begin + length == outline.lines.length)
+    """What is around a part with this number. It is kept with the part."""
+    part, begin = outline.parts[number], outline.starts[number]
+    behind = outline.parts[number + 1].head if number + 1 < len(outline.parts) else None
+    key = behind, [outline.late_ends[number, index] - begin for index in part.spans.open]
+    known, found = part.around
+    if known != key:
+        definitions = tuple([(opened.name_start, end) for opened, end in outline.spans_in(number) if opened.kind in (DEFINE, START)])
+        blanks, is_definition = behind or (0, False)
+        found = Around(definitions, part.length + blanks, is_definition, behind is None)
+        part.around = key, found
+    return found
 
 
 def seen(levels: List[Level], begin: int, blanks: str) -> Optional[List[Level]]:
@@ -232,12 +235,20 @@ def seen(levels: List[Level], begin: int, blanks: str) -> Optional[List[Level]]:
             *(Level(each.outside[cut:], each.inside[cut:], each.item[cut:], max(each.end - begin, 0), each.hangs) for each in inner)]
 
 
+def are_seen(levels: List[Level], begin: int, blanks: str, used: List[Level]) -> bool:
+    """Whether a part sees levels as these others. Most parts see one, behind no blanks."""
+    if len(levels) != 1 or len(used) != 1 or blanks:
+        return len(levels) == len(used) and seen(levels, begin, blanks) == used
+    (_, inside, item, end, hangs), mine = levels[0], used[0]
+    return inside == mine.inside and item == mine.item and hangs == mine.hangs and max(end - begin, 0) == mine.end
+
+
 def indented_part(part: Part, around: Around, levels: List[Level], begin: int) -> Tuple[Indented, str]:
     """How a part is indented, and the blanks before all its lines. It is kept with the part, for the last few things that were around it."""
     for found in part.indented.get(around, ()):
         own = levels[-len(found.used):]
         blanks = own[0].inside if found.is_inside else ""
-        if len(own) == len(found.used) and seen(own, begin, blanks) == found.used:
+        if are_seen(own, begin, blanks, found.used):
             return found, blanks
     found = Indenter(part.words, around, levels, begin).run()
     if len(part.indented) >= MOST_KEPT:

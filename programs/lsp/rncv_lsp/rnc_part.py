@@ -3,10 +3,10 @@ text: a literal or a brace that is opened may be closed some keystrokes later.""
 from __future__ import annotations
 
 import functools
-from typing import Any, Dict, Iterable, Iterator, List, NamedTuple, Optional, Set, Tuple
+from typing import Any, Dict, Iterable, Iterator, List, NamedTuple, Optional, Tuple
 
 from rncv_lsp.outside import KEYWORDS
-from rncv_lsp.rnc_outline import DEFINE, Facts, Name, Opened
+from rncv_lsp.rnc_outline import DEFINE, START, Facts, Name, Opened
 from rncv_lsp.rnc_states import State
 from rncv_lsp.rnc_tokens import CNAME, DOC, LITERAL, OPEN, QUOTED, SIGN, WORD, Lexed
 
@@ -15,7 +15,7 @@ LAST_WORDS = ("empty", "text", "notAllowed", "string", "token")
 OPEN_SIGNS = ("=", "|=", "&=", "~", ">>")
 PARTNERS = {"}": "{", ")": "(", "]": "["}
 # What is found of a part when it is asked for.
-FOUND_ONCE = ("brackets", "blocks", "opened", "spans", "by_text", "by_role", "defining")
+FOUND_ONCE = ("brackets", "blocks", "opened", "head", "spans", "by_text", "by_role", "defined")
 # How many ways to read a text are kept; how long a text is that is kept when it is gone, and all of them.
 MOST_WAYS, KEPT_LENGTH, MOST_KEPT_LENGTH = 4, 16_384, 1_048_576
 
@@ -90,11 +90,15 @@ class Part:
 
     def __init__(self, words: str, before: State, scan: Scan, facts: Facts) -> None:
         self.words, self.length, self.scan, self.facts = words, len(words), scan, facts
+        self.line_count = lines_at(words, [self.length])[0]
         self._before = between(before)
         self.starts = [name.start for name in facts.names]
-        # How its lines are indented (rnc_indent.py), by what is around it; and how its components are written (rnc_tree.py), by the encoding.
+        # How its lines are indented (rnc_indent.py), by what is around it, and what was around it last; how its components are written (rnc_tree.py), by the
+        # encoding; and what can be folded in it (rnc_symbols.py).
         self.indented: Dict[Any, List[Any]] = {}
+        self.around: Tuple[Any, Any] = None, None
         self.shown: Dict[str, Any] = {}
+        self.folded: Tuple[Any, Any] = None, None
 
     def is_behind(self, state: State) -> bool:
         """Whether this is what it says behind a state."""
@@ -125,6 +129,12 @@ class Part:
     def opened(self) -> List[Opened]:
         """The components that begin in it."""
         return [event for event in self.facts.events if not isinstance(event, int)]
+
+    @functools.cached_property
+    def head(self) -> Tuple[int, bool]:
+        """How many blanks it begins with, and whether a definition begins behind them."""
+        blanks = self.length - len(self.words.lstrip(" \t"))
+        return blanks, next((opened.name_start for opened in self.opened if opened.kind in (DEFINE, START)), -1) == blanks
 
     @functools.cached_property
     def spans(self) -> Spans:
@@ -159,9 +169,12 @@ class Part:
         return found
 
     @functools.cached_property
-    def defining(self) -> Set[int]:
-        """The grammars that have definitions in it."""
-        return {name.scope for name in self.by_role.get(DEFINE, ())}
+    def defined(self) -> Dict[int, List[str]]:
+        """The names of the definitions in it, by their grammars."""
+        found: Dict[int, List[str]] = {}
+        for name in self.by_role.get(DEFINE, ()):
+            found.setdefault(name.scope, []).append(name.text)
+        return found
 
 
 class Known:

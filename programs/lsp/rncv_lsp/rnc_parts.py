@@ -3,6 +3,7 @@ from __future__ import annotations
 
 import bisect
 import functools
+import itertools
 import re
 from typing import Container, Dict, Iterator, List, NamedTuple, Optional, Tuple
 
@@ -160,6 +161,11 @@ class Outline:
         """The parts, and where they begin."""
         return zip(self.starts, self.parts)
 
+    @functools.cached_property
+    def aboves(self) -> List[int]:
+        """The lines in which the parts begin, counted from 0."""
+        return [0, *itertools.accumulate(part.line_count for part in self.parts[:-1])]
+
     def with_text(self, text: str) -> Iterator[Name]:
         """The names with a text, at their places in the file."""
         for number, part in enumerate(self.parts):
@@ -188,11 +194,16 @@ class Outline:
             self._around[number] = list(state.scopes_around())
         return self._around[number][-scope] if scope < 0 else state.frames[-1].scope
 
-    def defined(self, scopes: Container[int]) -> Iterator[str]:
+    def defined(self, scopes: Container[int]) -> List[str]:
         """The names of the definitions in these grammars of the file. Their places are not counted, which takes most of the time of many names."""
+        found: List[str] = []
         for number, part in enumerate(self.parts):
-            wanted = {scope for scope in part.defining if self._scope(number, scope) in scopes}
-            yield from [name.text for name in part.by_role.get(DEFINE, ()) if name.scope in wanted] if wanted else ()
+            wanted = [scope for scope in part.defined if self._scope(number, scope) in scopes]
+            if len(wanted) == 1:
+                found += part.defined[wanted[0]]
+            elif wanted:
+                found += [name.text for name in part.by_role[DEFINE] if name.scope in wanted]
+        return found
 
     def at(self, offset: int) -> List[Name]:
         """The names at an offset, the shortest first. A name ends behind its last character, unless another one begins there."""

@@ -150,7 +150,7 @@ class SchemaRequests:
         document = self._schema(params)
         if document is None:
             return None
-        return foldings(self._outlines.of(opened(document)), Lines(document.lines, self._documents.encoding), self._most_foldings)
+        return foldings(self._outlines.of(opened(document)), self._most_foldings)
 
     def _format(self, params: Any, place: Any = None) -> Optional[Written]:
         """The edits that indent a schema, or the lines of a range."""

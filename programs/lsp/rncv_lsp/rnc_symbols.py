@@ -2,10 +2,10 @@
 from __future__ import annotations
 
 import functools
-from typing import Any, Dict, Iterator, List, Optional, Set, Tuple
+from typing import Any, Dict, Iterator, List, Optional, Tuple
 
 from rncv_lsp.rnc_outline import DEFINE, ELEMENT, INCLUDE, START
-from rncv_lsp.rnc_part import close_bracket, joined_lines
+from rncv_lsp.rnc_part import Part, close_bracket, joined_lines
 from rncv_lsp.rnc_parts import Component, Outline
 from rncv_lsp.rnc_places import Lines
 from rncv_lsp.rpc import Written
@@ -17,6 +17,9 @@ PATTERN_KINDS = {"element": CLASS, "attribute": PROPERTY, "external": FILE, "str
 # An answer with more levels is not what a client can show, and a deep one cannot be written.
 MOST_DEPTH = 50
 MOST_SYMBOLS = 1_000
+COMMENT = ',"kind":"comment"'
+# The first line, the last one as a negative number, so that the longer range is first, and what else is written.
+Folding = Tuple[int, int, str]
 
 
 def kind_of(component: Component) -> int:
@@ -78,29 +81,61 @@ def has_letters(text: str, query: str) -> bool:
     return True
 
 
-def braces(outline: Outline, lines: Lines) -> Set[Tuple[int, int]]:
-    """The lines of the pairs of braces and of brackets that are not on one line."""
+def late_braces(outline: Outline) -> List[Tuple[int, int]]:
+    """The lines of the pairs of braces and of brackets that begin and end in different parts."""
     waiting: List[Tuple[int, str]] = []
     found: List[Tuple[int, int]] = []
-    for begin, part in outline.placed():
-        above = lines.line(begin)
-        found += [(above + start, above + end) for start, end in part.brackets.pairs]
-        for line, sign in part.brackets.outer:
+    for above, part in zip(outline.aboves, outline.parts):
+        brackets = part.brackets
+        for line, sign in brackets.outer:
             close_bracket(waiting, above + line, sign, found)
-        waiting += [(above + line, sign) for line, sign in part.brackets.open]
-    return set(found)
+        if brackets.open:
+            waiting += [(above + line, sign) for line, sign in brackets.open]
+    return found
 
 
-def comment_lines(outline: Outline, lines: Lines) -> Iterator[Tuple[int, int]]:
+def comment_blocks(outline: Outline) -> Iterator[Tuple[int, int]]:
     """The first and the last line of each block of comments."""
-    above = ((lines.line(begin), part) for begin, part in outline.placed())
-    return joined_lines((line + start, line + end) for line, part in above for start, end in part.blocks)
+    return joined_lines((above + start, above + end) for above, part in zip(outline.aboves, outline.parts) for start, end in part.blocks)
 
 
-def foldings(outline: Outline, lines: Lines, most: Optional[int]) -> Written:
+def joins_blocks(outline: Outline) -> bool:
+    """Whether a block of comments goes on in another part."""
+    last = -2
+    for above, part in zip(outline.aboves, outline.parts):
+        if part.blocks:
+            if above + part.blocks[0][0] <= last + 1:
+                return True
+            last = above + part.blocks[-1][1]
+    return False
+
+
+def own_foldings(part: Part, above: int, has_comments: bool) -> List[Tuple[Folding, str]]:
+    """What can be folded in a part alone that begins in this line. It is kept with the part."""
+    key = above, has_comments
+    known, found = part.folded
+    if known != key:
+        pairs = [(above + start, 1 - above - end, "") for start, end in set(part.brackets.pairs) if end - 1 > start]
+        blocks = [(above + first, -above - last, COMMENT) for first, last in part.blocks if last > first] if has_comments else []
+        found = list(map(written_folding, sorted([*pairs, *blocks])))
+        part.folded = key, found
+    return found
+
+
+def written_folding(found: Folding) -> Tuple[Folding, str]:
+    """A range, and its JSON."""
+    start, end, kind = found
+    return found, f'{{"startLine":{start},"endLine":{-end}{kind}}}'
+
+
+def foldings(outline: Outline, most: Optional[int]) -> Written:
     """The ranges that can be folded: between braces that are on different lines, whose last line stays, and blocks of comments. If there are many, the first
     ones."""
-    pairs = [(start, 1 - end, "") for start, end in braces(outline, lines) if end - 1 > start]
-    comments = [(first, -last, ',"kind":"comment"') for first, last in comment_lines(outline, lines) if last > first]
-    found = sorted([*pairs, *comments])[:most]
-    return Written("[" + ",".join([f'{{"startLine":{start},"endLine":{-end}{kind}}}' for start, end, kind in found]) + "]")
+    has_own_comments = not joins_blocks(outline)
+    others = {(start, 1 - end, "") for start, end in late_braces(outline) if end - 1 > start}
+    if not has_own_comments:
+        others.update((first, -last, COMMENT) for first, last in comment_blocks(outline) if last > first)
+    found = list(map(written_folding, others))
+    for above, part in zip(outline.aboves, outline.parts):
+        found += own_foldings(part, above, has_own_comments)
+    return Written("[" + ",".join([words for _, words in sorted(found)[:most]]) + "]")

@@ -25,10 +25,12 @@ class Form(NamedTuple):
 
 
 class Shown(NamedTuple):
-    """What a part adds: a form before each end of a component that begins before it, and a last one; and how many levels these have."""
+    """What a part adds: a form before each end of a component that begins before it, and a last one; and how many levels these have. `kept` has the line where
+    the part began when its forms were filled last, and the texts, if these depend on nothing else."""
 
     forms: List[Form]
     depth: int
+    kept: List[Tuple[int, List[str]]]
 
 
 class Writer:
@@ -58,7 +60,7 @@ class Writer:
             else:
                 forms.append(self._form._replace(text="".join(self._parts)))
                 self._begin_form()
-        return Shown([*forms, self._form._replace(text="".join(self._parts))], depth)
+        return Shown([*forms, self._form._replace(text="".join(self._parts))], depth, [(-1, [])])
 
     def _head(self, opened: Opened) -> str:
         """A component up to those in it."""
@@ -97,9 +99,18 @@ def shown(part: Part, encoding: str) -> Shown:
     return found
 
 
-def filled(form: Form, begin: int, lines: Lines) -> str:
-    """The text of a form of the part that begins here."""
-    above = lines.line(begin)
+def texts_of(found: Shown, above: int, begin: int, lines: Lines) -> List[str]:
+    """The texts of the forms of the part that begins here, in this line."""
+    line, texts = found.kept[0]
+    if line != above:
+        texts = [filled(form, above, begin, lines) for form in found.forms]
+        if not any(form.outside for form in found.forms):
+            found.kept[0] = above, texts
+    return texts
+
+
+def filled(form: Form, above: int, begin: int, lines: Lines) -> str:
+    """The text of a form of the part that begins here, in this line."""
     numbers = [above + line for line in form.numbers]
     for at, offset in form.outside:
         numbers[at:at + 2] = lines.position(begin + offset).values()
@@ -109,20 +120,20 @@ def filled(form: Form, begin: int, lines: Lines) -> str:
 def written_tree(outline: Outline, lines: Lines) -> Optional[Written]:
     """The components as symbols, those inside others as their children; None if they are too deep for that."""
     found, path = ["["], []  # type: List[str], List[Tuple[int, int]]
-    for begin, part in outline.placed():
-        forms, depth = shown(part, lines.encoding)
-        if depth + len(path) > MOST_DEPTH:
+    for above, (begin, part) in zip(outline.aboves, outline.placed()):
+        each = shown(part, lines.encoding)
+        if each.depth + len(path) > MOST_DEPTH:
             return None
-        for form, outer in itertools.zip_longest(forms, part.spans.outer):
-            if form.text:
-                found += ["" if found[-1].endswith("[") else ",", filled(form, begin, lines)]
+        for text, outer in itertools.zip_longest(texts_of(each, above, begin, lines), part.spans.outer):
+            if text:
+                found += ["" if found[-1].endswith("[") else ",", text]
             if outer is not None and path:
                 found.append(tail(*path.pop(), begin + outer, lines))
         path += [(begin + opened.start, begin + opened.name_end) for opened in map(part.opened.__getitem__, part.spans.open)]
-    found += [tail(*each, lines.length, lines) for each in reversed(path)]
+    found += [tail(*ends, lines.length, lines) for ends in reversed(path)]
     return Written("".join([*found, "]"]))
 
 
 def tail(start: int, name_end: int, end: int, lines: Lines) -> str:
     """What is behind the children of a component."""
-    return f'],"range":{json.dumps(lines.range(start, max(end, name_end)))}}}'
+    return f'],"range":{lines.written(start, max(end, name_end))}}}'

@@ -183,12 +183,19 @@ class Text:
             at, left, index = at + len(part), left - width, index + 1
         return end
 
+    def line_of(self, offset: int) -> Tuple[int, int]:
+        """The line (counted from 0) of an offset, and where it begins."""
+        index = self._index(offset)
+        begin, ends = self._offsets[index], self.pieces[index].ends
+        count = bisect.bisect_right(ends, offset - begin)
+        line = self._line_counts[index] + count
+        return line, begin + ends[count - 1] if count else self.line_start(line)
+
     def position(self, offset: int, encoding: str) -> Dict[str, int]:
         """The position of the protocol for an offset."""
         offset = max(0, min(offset, self.length))
-        index = self._index(offset)
-        line = self._line_counts[index] + bisect.bisect_right(self.pieces[index].ends, offset - self._offsets[index])
-        return {"line": line, "character": sum(units(part, encoding) for part in self.parts(self.line_start(line), offset))}
+        line, start = self.line_of(offset)
+        return {"line": line, "character": sum(units(part, encoding) for part in self.parts(start, offset))}
 
     def range(self, start: int, end: int, encoding: str) -> Dict[str, Any]:
         """The range of the protocol between two offsets."""

@@ -93,13 +93,13 @@ class Parts(unittest.TestCase):
     def check_views(self, outline, *others):
         """What is shown of an outline is shown of these others too."""
         lines = Lines(outline.lines, "utf-16")
-        shown = json.loads(written_tree(outline, lines) or "null"), foldings(outline, lines, None), indented(outline, "  "), indented(outline, "\t")
+        shown = json.loads(written_tree(outline, lines) or "null"), foldings(outline, None), indented(outline, "  "), indented(outline, "\t")
         for each in others:
-            self.assertEqual(shown, (tree(each, lines), foldings(each, lines, None), indented(each, "  "), indented(each, "\t")), outline.lines.text)
-            self.assertEqual(foldings(outline, lines, 3), foldings(each, lines, 3))
+            self.assertEqual(shown, (tree(each, lines), foldings(each, None), indented(each, "  "), indented(each, "\t")), outline.lines.text)
+            self.assertEqual(foldings(outline, 3), foldings(each, 3))
         for each in outline.components:
             self.assertEqual(outline.component(each.opened.name_start), (each.opened.start, each.end))
-        self.assertEqual(json.loads(foldings(outline, lines, None)), folded(outline.lines.text))
+        self.assertEqual(json.loads(foldings(outline, None)), folded(outline.lines.text))
 
     def test_edits_of_schemas(self):
         chosen = random.Random(5)
