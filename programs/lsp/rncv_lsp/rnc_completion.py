@@ -52,10 +52,11 @@ def spot_of(asked: Asked) -> Optional[Spot]:
     found = TYPED.search(before, max(0, len(before) - LONGEST))
     typed = found[0] if found else ""
     before = before[:len(before) - len(typed)]
-    tokens = lexed(before)
+    tokens = lexed(before, lambda place: outline.has_end(begin + place))
+    is_in_literal = bool(tokens.open) and outline.has_end(begin + tokens.open[-1])
     is_in_comment = bool(tokens.comments) and tokens.comments[-1][1] == len(before)
     last = tokens.tokens[-1] if tokens.tokens else NOTHING
-    if is_in_comment or tokens.open or (last.kind in (OPEN, DOC) and last.end == len(before)):
+    if is_in_comment or is_in_literal or (last.kind in (OPEN, DOC) and last.end == len(before)):
         return None
     reader = Reader(before, tokens.tokens, outline.states[index])
     reader.run()

@@ -131,7 +131,7 @@ class Outline:
         text, begin, end, last = self.lines.text, places[index], index + 1, len(places) - 1
         words = text[begin:places[end]]
         known = self._known.scan(words)
-        if known is not None and (end == last or (known.is_settled and not any(self._end_of_literal(begin + at) >= 0 for at in known.open))):
+        if known is not None and (end == last or (known.is_settled and not any(self.has_end(begin + at) for at in known.open))):
             return end, words, known
         found, length = self._tokens(begin, words), len(words)
         while end < last:
@@ -141,7 +141,7 @@ class Outline:
                 break
             at, end = at if until >= 0 else length, max(end + 1, bisect.bisect_left(places, until))
             length = places[end] - begin
-            go_on(found, at, text[begin + at:begin + length], lambda place: self._end_of_literal(begin + place) >= 0)
+            go_on(found, at, text[begin + at:begin + length], lambda place: self.has_end(begin + place))
         self._fresh = begin, text[begin:begin + length], found
         return end, self._fresh[1], scan_of(found, self._fresh[1])
 
@@ -151,10 +151,14 @@ class Outline:
         end = text.find(text[place:place + 3], place + 3)
         return end + 3 if end >= 0 else -1
 
+    def has_end(self, place: int) -> bool:
+        """Whether the literal has an end that begins with three quotes at a place."""
+        return self._end_of_literal(place) >= 0
+
     def _tokens(self, begin: int, words: str) -> Lexed:
         """The tokens of the text that begins at a place."""
         if self._fresh[:2] != (begin, words):
-            self._fresh = begin, words, lexed(words, lambda place: self._end_of_literal(begin + place) >= 0)
+            self._fresh = begin, words, lexed(words, lambda place: self.has_end(begin + place))
         return self._fresh[2]
 
     def placed(self) -> Iterator[Tuple[int, Part]]:

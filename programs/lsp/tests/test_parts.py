@@ -5,6 +5,7 @@ import json
 import random
 import re
 import sys
+import types
 import unittest
 import unittest.mock
 
@@ -12,6 +13,7 @@ from client import TOP
 
 sys.path.insert(0, str(TOP / "programs/lsp"))
 from rncv_lsp.rnc_ahead import ahead  # noqa: E402
+from rncv_lsp.rnc_completion import spot_of  # noqa: E402
 from rncv_lsp.rnc_indent import indented  # noqa: E402
 from rncv_lsp.rnc_parts import Outline  # noqa: E402
 from rncv_lsp.rnc_places import Lines  # noqa: E402
@@ -89,6 +91,7 @@ class Parts(unittest.TestCase):
         self.assertEqual(told(outline), told(fresh), outline.lines.text)
         self.assertEqual(told(outline), told(whole), outline.lines.text)
         self.check_views(outline, fresh, whole)
+        self.check_spots(outline, fresh, whole)
 
     def check_views(self, outline, *others):
         """What is shown of an outline is shown of these others too."""
@@ -100,6 +103,16 @@ class Parts(unittest.TestCase):
         for each in outline.components:
             self.assertEqual(outline.component(each.opened.name_start), (each.opened.start, each.end))
         self.assertEqual(json.loads(foldings(outline, None)), folded(outline.lines.text))
+
+    def check_spots(self, outline, *others):
+        """What may be written at a place depends on the text alone."""
+        for offset in (0, outline.lines.length // 2, outline.lines.length):
+            spots = []
+            for each in (outline, *others):
+                asked = types.SimpleNamespace(grammars=types.SimpleNamespace(outlines={"": each}), key="", offset=offset)
+                found = spot_of(asked) if each.parts else None
+                spots.append(found and (found.start, found.typed, found.reader.stack, found.reader.expects))
+            self.assertEqual(spots, spots[:1] * len(spots), (outline.lines.text, offset))
 
     def test_edits_of_schemas(self):
         chosen = random.Random(5)
