@@ -36,12 +36,17 @@ class Outlines:
     def __init__(self) -> None:
         self._known: Dict[str, Outline] = {}
 
+    def begin(self, file: SchemaFile) -> Outline:
+        """The outline of a file, which is only begun if there is none. Any thread may ask for it, and read it step by step."""
+        return self._known.setdefault(file.key, Outline(lines_of(file), None, True))
+
     def of(self, file: SchemaFile) -> Outline:
-        """The outline of a file. One that is too long for a schema is empty."""
-        known = self._known.get(file.key)
-        is_short = len(file.content) <= FILE_BYTES
-        if known is None or known.lines is not file.lines:
-            known = Outline(file.lines if is_short else Text(), known)
+        """The outline of a file, to the thread that answers."""
+        known = self.begin(file)
+        while known.advance():
+            pass
+        if known.lines is not file.lines:
+            known = Outline(lines_of(file), known)
             self._known[file.key] = known
         return known
 
@@ -49,6 +54,11 @@ class Outlines:
         """Forgets all but these."""
         wanted = set(keys)
         self._known = {key: known for key, known in self._known.items() if key in wanted}
+
+
+def lines_of(file: SchemaFile) -> Text:
+    """The text of a file. One that is too long for a schema is taken as empty."""
+    return file.lines if len(file.content) <= FILE_BYTES else Text()
 
 
 class Grammars:
@@ -80,15 +90,9 @@ class Grammars:
 
     def _mentioned(self, file: SchemaFile) -> Iterator[SchemaFile]:
         """The files that a file mentions."""
-        for name in itertools.islice(self.outlines[file.key].with_role(INCLUDE, EXTERNAL), MOST_MENTIONS):
-            found = self._find(file, name.text)
-            if found is not None:
-                self._mentions.append((Place(file.key, name), found.key))
-                yield found
-
-    def _find(self, file: SchemaFile, words: str) -> Optional[SchemaFile]:
-        """The file that words mean in a file."""
-        return next((found for found in map(self._view.find, ways(words, file.path)) if found is not None), None)
+        for name, found in mentioned_in(file, self.outlines[file.key], self._view):
+            self._mentions.append((Place(file.key, name), found.key))
+            yield found
 
     def _link(self, place: Place, key: str) -> None:
         """Links the grammars of a file and of one that it mentions."""
@@ -106,7 +110,7 @@ class Grammars:
 
     def mentioned(self, place: Place) -> Optional[SchemaFile]:
         """The file that a mention means."""
-        return self._find(self.files[place.key], place.name.text)
+        return file_meant(self.files[place.key], place.name.text, self._view)
 
     def mentions_of(self, key: str) -> List[Place]:
         """The mentions of a file."""
@@ -193,6 +197,19 @@ class Grammars:
         for key, scope in (each for node in nodes for each in self._sharing(node)):
             scopes.setdefault(key, set()).add(scope)
         return list(dict.fromkeys(text for key in scopes for text in self.outlines[key].defined(scopes[key])))
+
+
+def file_meant(file: SchemaFile, words: str, view: FileView) -> Optional[SchemaFile]:
+    """The file that words mean in a file."""
+    return next((found for found in map(view.find, ways(words, file.path)) if found is not None), None)
+
+
+def mentioned_in(file: SchemaFile, outline: Outline, view: FileView) -> Iterator[Tuple[Name, SchemaFile]]:
+    """The mentions in a file, and the files that they mean."""
+    for name in itertools.islice(outline.with_role(INCLUDE, EXTERNAL), MOST_MENTIONS):
+        found = file_meant(file, name.text, view)
+        if found is not None:
+            yield name, found
 
 
 def reached(node: Node, steps: Callable[[Node], Iterable[Node]]) -> List[Node]:

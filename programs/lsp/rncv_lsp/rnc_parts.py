@@ -5,6 +5,7 @@ import bisect
 import functools
 import itertools
 import re
+import threading
 from typing import Container, Dict, Iterator, List, NamedTuple, Optional, Tuple
 
 from rncv_lsp.outside import KEYWORDS
@@ -61,23 +62,28 @@ def same_parts(before: Outline, lines: Text) -> Same:
 
 
 class Outline:
-    """The names of a file, its parts, and the state before each."""
+    """The names of a file, its parts, and the state before each. One that is only begun is read step by step, by any thread, before anything is asked."""
 
-    def __init__(self, lines: Text, before: Optional[Outline] = None) -> None:
+    def __init__(self, lines: Text, before: Optional[Outline] = None, is_begun: bool = False) -> None:
         self.lines = lines
         self.starts: List[int] = []
         self.parts: List[Part] = []
         self.states: List[State] = []
-        # The grammars around a part, by its number, where it closes some. Where parts may begin in the pieces of the text; the outline before; what is known of
-        # parts; and the tokens that were found last, by their place and text.
+        # The grammars around a part, by its number, where it closes some. Where parts may begin in the pieces of the text; the outline before, which is whole;
+        # what is known of parts; and the tokens that were found last, by their place and text.
         self._around: Dict[int, List[int]] = {}
         self._places: Dict[Piece, List[int]] = {}
         self._old: Optional[Outline] = before
         self._known = before._known if before is not None else Known()
         self._fresh: Tuple[int, str, Lexed] = 0, "", lexed("")
-        is_cut = not QUOTE.search(lines.text)
-        self._read(self._boundaries() if is_cut else [], same_parts(before, lines) if before is not None and is_cut else Same(0, 0, []))
-        self._old = None
+        self._lock, self._steps = threading.Lock(), self._read()
+        while not is_begun and self.advance():
+            pass
+
+    def advance(self) -> bool:
+        """Reads the next part. False: all are read."""
+        with self._lock:
+            return next(self._steps, False)
 
     def _boundaries(self) -> List[int]:
         """Where parts may begin."""
@@ -89,14 +95,14 @@ class Outline:
             begin += piece.length
         return found
 
-    def _read(self, places: List[int], same: Same) -> None:
-        """Reads the text. Some of the places are where parts may begin. Parts of the text before are taken at its beginning, and behind the same state at its
-        end."""
+    def _read(self) -> Iterator[bool]:
+        """Reads the text, and stops behind each part. Parts of the text before are taken at its beginning, and behind the same state at its end."""
+        is_cut = not QUOTE.search(self.lines.text)
+        same = same_parts(self._old, self.lines) if self._old is not None and is_cut else Same(0, 0, [])
         parts, states = (self._old.parts, self._old.states) if self._old is not None else ([], [])
         self.parts, self.states = parts[:same.count], states[:same.count]
         self.starts = self._old.starts[:same.count] if self._old is not None else []
-        begin, until = same.place, same.starts[0] if same.starts else self.lines.length
-        places = [begin, *(place for place in places if begin < place < until), *same.starts, self.lines.length]
+        places = self._places_behind(same, self._boundaries() if is_cut else [])
         index, last = 0, len(places) - 1
         state = self.parts[-1].after(self.states[-1]) if self.parts else State()
         while index < last:
@@ -107,7 +113,14 @@ class Outline:
             end, part = self._next_part(places, index, state, parts[known] if known else None)
             self._add([places[index]], [part], [state])
             index, state = end, part.after(state)
+            yield True
         self._known.move(parts[same.count:], self.parts[same.count:])
+        self._old = None
+
+    def _places_behind(self, same: Same, places: List[int]) -> List[int]:
+        """Where parts may begin behind those of the text before, up to its end."""
+        begin, until = same.place, same.starts[0] if same.starts else self.lines.length
+        return [begin, *(place for place in places if begin < place < until), *same.starts, self.lines.length]
 
     def _add(self, starts: List[int], parts: List[Part], states: List[State]) -> None:
         """Adds parts."""

@@ -8,17 +8,15 @@ from rncv_lsp.documents import SCHEMA_LANGUAGES, Document, Documents
 from rncv_lsp.jobs import IDLE, keep_objects
 from rncv_lsp.rnc_ahead import ahead
 from rncv_lsp.rnc_completion import completion
-from rncv_lsp.rnc_grammars import Grammars, Outlines
+from rncv_lsp.rnc_grammars import MOST_FILES, Grammars, Outlines, mentioned_in
 from rncv_lsp.rnc_hover import hover
 from rncv_lsp.rnc_indent import edits, indented
 from rncv_lsp.rnc_names import Asked, definition, highlights, prepared, references, rename
-from rncv_lsp.rnc_parts import Outline
 from rncv_lsp.rnc_places import Lines
 from rncv_lsp.rnc_symbols import MOST_SYMBOLS, flat, foldings, tree
 from rncv_lsp.rnc_tree import written_tree
 from rncv_lsp.rpc import Connection, Handler, Written, member
-from rncv_lsp.schema_files import Disk, opened
-from rncv_lsp.texts import Text
+from rncv_lsp.schema_files import Disk, FileView, SchemaFile, opened
 
 MOST_BLANKS = 16
 CAPABILITIES = {
@@ -52,8 +50,8 @@ class SchemaRequests:
     def __init__(self, documents: Documents, datatypes: Callable[[], str]) -> None:
         self._documents, self._datatypes = documents, datatypes
         self._disk, self._outlines = Disk(), Outlines()
-        # The outlines of schemas that were opened, and that nothing was got ready of.
-        self._opened: List[Outline] = []
+        # The schemas that were opened, and that nothing was got ready of.
+        self._opened: List[SchemaFile] = []
         self._has_tree = self._is_markdown = self._has_versions = False
         self._most_foldings: Optional[int] = None
         self._registered: List[str] = []
@@ -89,16 +87,37 @@ class SchemaRequests:
         if found:
             connection.ask("client/registerCapability", {"registrations": found}, lambda result: None)
 
-    def read(self, document: Document) -> None:
-        """Reads a schema that was opened, and the files that it reaches, so that the first answer takes no longer than others."""
-        self._opened.append(self._grammars().outlines.get(document.key) or Outline(Text()))
+    def begin(self, document: Document) -> None:
+        """Begins to read a schema that was opened. It is read beside (`prepare`), or by the first answer that needs it."""
+        self._opened.append(opened(document))
+        self._outlines.begin(self._opened[-1])
+
+    def close(self) -> None:
+        """Forgets what is known of schemas if none is open any more, so that the first answer about another one does not bear that."""
+        if not any(document.is_schema for document in self._documents.snapshot()):
+            self._outlines.keep(())
 
     def prepare(self) -> None:
-        """Gets ready what is asked of schemas that were opened, part by part, while nothing is asked. Only one thread at a time does that."""
+        """Reads the schemas that were opened, and the files that they reach, and gets ready what is asked of them, step by step, while nothing is asked. Only
+        one thread at a time does that."""
         while self._opened:
-            for _ in ahead(self._opened.pop(), self._documents.encoding):
+            file = self._opened.pop()
+            self._read_from(file)
+            for _ in ahead(self._outlines.begin(file), self._documents.encoding):
                 IDLE.wait()
             keep_objects()
+
+    def _read_from(self, file: SchemaFile) -> None:
+        """Reads a file, and those on the disk that it reaches."""
+        view, waiting, seen = FileView(self._documents.snapshot(), self._disk), [file], {file.key}
+        while waiting and len(seen) < MOST_FILES:
+            file = waiting.pop(0)
+            outline = self._outlines.begin(file)
+            while outline.advance():
+                IDLE.wait()
+            found = {each.key: each for _, each in mentioned_in(file, outline, view) if each.document is None and each.key not in seen}
+            waiting += found.values()
+            seen.update(found)
 
     def _grammars(self) -> Grammars:
         """The grammars of the schemas that are open."""

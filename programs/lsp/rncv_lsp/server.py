@@ -125,7 +125,7 @@ class Server:
         self._documents.open(document)
         self._coordinator.touch(document)
         if document.is_schema:
-            self._schemas.read(document)
+            self._schemas.begin(document)
             self._coordinator.run_beside("schemas", self._schemas.prepare)
 
     def _changed(self, params: Any) -> None:
@@ -139,6 +139,7 @@ class Server:
         uri = member(member(params, "textDocument", dict), "uri", str)
         self._documents.close(uri)
         self._answers.forget(uri)
+        self._schemas.close()
         self._coordinator.touch()
 
     def _configured(self, params: Any) -> None:

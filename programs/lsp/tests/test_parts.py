@@ -5,6 +5,7 @@ import json
 import random
 import re
 import sys
+import threading
 import types
 import unittest
 import unittest.mock
@@ -181,6 +182,23 @@ class Parts(unittest.TestCase):
         with unittest.mock.patch("rncv_lsp.rnc_tree.Writer"), unittest.mock.patch("rncv_lsp.rnc_indent.Indenter"):
             self.check_views(outline)
         self.check(outline)
+
+    def test_a_reading_in_steps(self):
+        text = Text("start = a0\n" + "".join(f"a{n} =\n  element a {{ a{n + 1}? }}\n" for n in range(2_000)))
+        before = Outline(text, None, True)
+        threads = [threading.Thread(target=lambda: all(iter(before.advance, False))) for _ in range(3)]
+        for thread in threads:
+            thread.start()
+        for thread in threads:
+            thread.join()
+        self.assertGreater(len(before.parts), 30)
+        self.assertEqual(told(before), told(Outline(text)))
+        changed = text._replaced(30_000, 30_000, "x")
+        after, steps = Outline(changed, before, True), 0
+        while after.advance():
+            steps += 1
+        self.assertLess(steps, 5)
+        self.assertEqual(told(after), told(Outline(changed)))
 
     def test_tokens_stay(self):
         chosen = random.Random(5)

@@ -5,6 +5,7 @@ import queue
 import random
 import re
 import sys
+import threading
 import time
 import unittest
 import unittest.mock
@@ -17,7 +18,7 @@ from rncv_lsp.coordinator import Coordinator  # noqa: E402
 from rncv_lsp.documents import Document, Documents  # noqa: E402
 from rncv_lsp.findings import Finding, address, slug  # noqa: E402
 from rncv_lsp.framing import MessageReader  # noqa: E402
-from rncv_lsp.jobs import Jobs  # noqa: E402
+from rncv_lsp.jobs import Idle, Jobs  # noqa: E402
 from rncv_lsp.outside import rncv  # noqa: E402
 from rncv_lsp.parts import joined_capabilities, joined_requests  # noqa: E402
 from rncv_lsp.rpc import Connection, Dispatcher  # noqa: E402
@@ -235,6 +236,19 @@ class Faults(unittest.TestCase):
         connection = Connection(Broken())
         connection.log(1, "x")
         connection.notify("x", None)
+
+
+class Waits(unittest.TestCase):
+    """Threads that give way."""
+
+    def test_a_thread_gives_way_to_another_one(self):
+        idle, done = Idle(), queue.Queue()
+        idle.wait()
+        with idle:
+            idle.wait()  # it does not wait for itself
+            threading.Thread(target=lambda: done.put(idle.wait()), daemon=True).start()
+            self.assertRaises(queue.Empty, done.get, timeout=0.1)
+        self.assertIsNone(done.get(timeout=120))
 
 
 class PartsTest(unittest.TestCase):
