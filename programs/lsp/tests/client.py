@@ -11,7 +11,7 @@ import tempfile
 import threading
 import time
 import unittest
-from typing import Any, Callable, Dict, List, Optional, Set
+from typing import Any, Callable, Dict, List, Optional, Set, Tuple
 
 TOP = pathlib.Path(__file__).resolve().parents[3]
 SERVER = TOP / "programs/lsp/rncv-lsp"
@@ -45,7 +45,9 @@ class Client:
     def __init__(self, *words: str, **environment: str) -> None:
         self.process = subprocess.Popen([sys.executable, str(SERVER), "--stdio", *words], stdin=subprocess.PIPE, stdout=subprocess.PIPE, stderr=subprocess.PIPE,
                                         env={**os.environ, **environment})
-        self._messages: "queue.Queue[Optional[Dict[str, Any]]]" = queue.Queue()
+        self._messages: "queue.Queue[Tuple[Optional[Dict[str, Any]], float]]" = queue.Queue()
+        # When all bytes of the message that was taken last were there.
+        self.arrived = 0.0
         self.diagnostics: Dict[str, List[Dict[str, Any]]] = {}
         self.versions: Dict[str, Optional[int]] = {}
         self.published: List[str] = []
@@ -63,9 +65,11 @@ class Client:
                 name, _, value = line.partition(b":")
                 length = int(value) if name == b"Content-Length" else length
             if length is None:
-                self._messages.put(None)
+                self._messages.put((None, 0.0))
                 return
-            self._messages.put(json.loads(output.read(length)))
+            data = output.read(length)
+            arrived = time.perf_counter()
+            self._messages.put((json.loads(data), arrived))
 
     def write(self, data: bytes) -> None:
         """Writes bytes as they are."""
@@ -79,7 +83,7 @@ class Client:
     def take(self, limit: float = SECONDS) -> Any:
         """Takes a message from the server, keeps diagnostics, and answers requests."""
         try:
-            message = self._messages.get(timeout=limit)
+            message, self.arrived = self._messages.get(timeout=limit)
         except queue.Empty:
             raise AssertionError(f"the server says nothing more; diagnostics: {self.diagnostics}; else: {self.other}") from None
         if message is None:

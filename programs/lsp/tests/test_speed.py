@@ -1,14 +1,17 @@
 """Tests of how long the server takes for edits of large documents, and for requests that come while it judges. The limits are for a busy machine.
 
-    python3 -B test_speed.py --times     prints how long answers take behind keystrokes at 20 places in 200 KB, and the first ones: of a processor and by the
-                                         clock
+    python3 -B test_speed.py --times     prints how long answers take behind keystrokes at 20 places in 200 KB, and the first ones: of a processor, by the
+                                         clock, and until the client has read them
 """
+import gc
 import itertools
+import os
 import pathlib
 import statistics
 import sys
 import time
 import unittest
+from typing import NamedTuple
 
 from client import SCHEMA, WithServer
 
@@ -17,8 +20,8 @@ ITEM = "<item at='1'>text and <![CDATA[more]]> \u00e9</item>"
 COUNT = 100_000
 EDITS = 100
 # The longest that an answer may take behind a keystroke in a document of this length. Where many others use the processors, it
-# takes three times as long.
-ANSWER_SECONDS, ANSWER_LENGTH, BUSY = 0.02, 200_000, 3
+# takes three times as long. The first answer about a document of which nothing is read may take so much of a processor.
+ANSWER_SECONDS, ANSWER_LENGTH, BUSY, FIRST_SECONDS = 0.02, 200_000, 3, 0.3
 PLACES = 20
 # What has an empty answer at some of the places.
 MAY_BE_EMPTY = ("completion of an element", "completion of an attribute", "completion of a value", "hover", "definition", "formatting", "rangeFormatting")
@@ -49,6 +52,11 @@ NOTE = '''[ a:note [ """
 '''
 # What is typed in front of a definition, or in one, and what closes it: the column, the words, how many lines further they are closed, and by what.
 OPENED = ((0, "div {", 700, "}"), (0, "grammar {", 0, "}"), (2, '"""', 0, '"""'), (2, "[", 0, "]"), (2, "(", 0, ")"), (2, "{", 0, "}"))
+# The pauses before the requests behind a keystroke. The server judges 30 milliseconds behind a message.
+PAUSES = ((0.0,), (0.1, 0.02), (0.035,), (0.05, 0.0, 0.02), (0.15,))
+# The requests that are about one file alone.
+OF_ONE_FILE = ("documentSymbol", "foldingRange", "formatting")
+KINDS = ("in_a_document", "in_a_schema", "in_an_open_schema", "with_pauses", "at_first", "at_once")
 # For so many hundredths of a second a server does nothing that is idle.
 QUIET = 30
 # Some 0.2 seconds when nothing else runs. To copy the whole text for each edit would take 20 seconds.
@@ -115,10 +123,26 @@ class Large(WithServer):
         self.assertLess(min(times), ANSWER_SECONDS)  # the least, since other tests take the processor too
 
 
+class Times(NamedTuple):
+    """The seconds of an answer: of a processor, in the thread that answers; by the clock, until all its bytes are there; the same without what threads have
+    waited for a processor, as far as that is known; and until the client has read it."""
+
+    spent: float
+    clock: float
+    busy: float
+    read: float
+
+
 class Answers(WithServer):
     """How long answers take behind keystrokes that are spread over documents of 200 KB."""
 
     CAPABILITIES = {"textDocument": {"documentSymbol": {"hierarchicalDocumentSymbolSupport": True}}}
+
+    def setUp(self):
+        super().setUp()
+        # Answers are large, and the client looks for cycles in none of them.
+        gc.disable()
+        self.addCleanup(gc.enable)
 
     def spent(self):
         """The processor time of the thread that answers; the clock, if the system does not tell it."""
@@ -127,6 +151,14 @@ class Answers(WithServer):
             return int(pathlib.Path(f"/proc/{identity}/task/{identity}/schedstat").read_text().split()[0]) / 1e9
         except (OSError, IndexError, ValueError):
             return time.perf_counter()
+
+    def waited(self):
+        """How long all threads of the server and of the client have waited for a processor; 0, if the system does not tell it."""
+        tasks = (path for identity in (self.client.process.pid, os.getpid()) for path in pathlib.Path(f"/proc/{identity}/task").glob("*/schedstat"))
+        try:
+            return sum(int(path.read_text().split()[1]) for path in tasks) / 1e9
+        except (OSError, IndexError, ValueError):
+            return 0.0
 
     def idle(self):
         """Waits until no thread of the server has anything to do. If the system does not tell that, some seconds."""
@@ -140,14 +172,16 @@ class Answers(WithServer):
             time.sleep(0.01)
 
     def timed(self, uri, method, params):
-        """How long the answer to a request takes: of a processor, and by the clock; and the answer. A method may have words behind it."""
-        begin = self.spent(), time.perf_counter()
+        """The times of the answer to a request, and the answer. A method may have words behind it."""
+        waited, spent, begin = self.waited(), self.spent(), time.perf_counter()
         answer = self.client.request(f"textDocument/{method.split()[0]}", {"textDocument": {"uri": uri}, **params})
-        return (self.spent() - begin[0], time.perf_counter() - begin[1]), answer
+        taken, spent, arrived = time.perf_counter() - begin, self.spent() - spent, self.client.arrived - begin
+        self.client.other.clear()
+        return Times(spent, arrived, max(spent, arrived - (self.waited() - waited)), taken), answer
 
     def typed(self, uri, places, letters, requests):
-        """For each request and for the first keystroke at a place, or a later one, how long the answers took: of a processor, and by the clock. `places` are
-        lines, in which letters are typed at a column. Behind each keystroke comes one request, so that it bears all that the keystroke costs."""
+        """For each request and for the first keystroke at a place, or a later one, how long the answers took. `places` are lines, in which letters are typed
+        at a column. Behind each keystroke comes one request, so that it bears all that the keystroke costs."""
         times, version = {}, 1
         self.idle()  # what opening the document costs does not count
         for number, (line, column) in enumerate(places):
@@ -187,13 +221,17 @@ class Answers(WithServer):
 
         return self.typed(uri, [(line, 0) for line in places], "<para/><section role='d", requests)
 
-    def open_schema(self, name, has_notes=False):
-        """Opens a schema. Returns its URI, and its lines."""
+    @staticmethod
+    def schema(has_notes=False, first=""):
+        """A schema. It may have notes, and a first component."""
         count = ANSWER_LENGTH // len(DEFINITION)
         notes = {number: NOTE.format(number) for number in range(0, count, 20)} if has_notes else {}
         definitions = "".join(notes.get(number, "") + DEFINITION.format(number, number + 1) for number in range(count))
-        text = f"namespace a = \"urn:a\"\nstart = e0\n{definitions}e{count} = element last {{ empty }}\n"
-        uri = self.uri(name)
+        return f"namespace a = \"urn:a\"\n{first}start = e0\n{definitions}e{count} = element last {{ empty }}\n"
+
+    def open_schema(self, name, *kind):
+        """Opens a schema. Returns its URI, and its lines."""
+        uri, text = self.uri(name), self.schema(*kind)
         self.client.open(uri, text, "rnc")
         self.assertEqual(self.client.found(uri), [])
         return uri, text.split("\n")
@@ -253,10 +291,44 @@ class Answers(WithServer):
             self.client.close(uri)
         return times
 
+    def with_pauses(self, most=PLACES):
+        """The times behind keystrokes in a schema that mentions a file, with pauses, in which the server judges."""
+        self.write("x.rnc", "x = text\n")
+        uri, lines = self.open_schema("b.rnc", False, 'include "x.rnc"\n')
+        times, methods, version = {}, itertools.cycle(self.requests(0, 0, "")), 1
+        self.idle()
+        for line in self.spread([number for number, line in enumerate(lines) if line.startswith("  (e")])[:most]:
+            for column, letter in enumerate("e1 | e1 | ", 3):
+                version += 1
+                self.client.change(uri, version, (line, column, line, column, letter))
+                for pause in PAUSES[version % len(PAUSES)]:
+                    time.sleep(pause)
+                    method = next(methods)
+                    spent = self.timed(uri, method, self.requests(line, column + 1, "")[method])[0]
+                    times.setdefault((method, "paused"), []).append(spent)
+        return times
+
+    def at_once(self, methods=None, rounds=3):
+        """The times of the first request right behind the opening of a schema; and of requests about another one that come before."""
+        other, times, text = self.open_schema("b.rnc")[0], {}, self.schema()
+        for number, method in enumerate([*(methods or self.requests(0, 0, ""))] * rounds):
+            uri = self.uri(f"{method}{number}.rnc")
+            self.idle()
+            self.client.open(uri, text, "rnc")
+            for name, asked, when in ((OF_ONE_FILE[number % len(OF_ONE_FILE)], other, "beside"), (method, uri, "at once")):
+                spent = self.timed(asked, name, self.requests(100, 4, "")[name])[0]
+                times.setdefault((name, when), []).append(spent)
+            self.client.found(uri)
+            self.client.close(uri)
+        return times
+
     def check(self, times):
-        """Wants short times."""
+        """Wants short times, and longest ones that are not much longer. Those of a clock count without what others had of the processors."""
         for (method, when), each in times.items():
-            self.assertLess(statistics.median(spent for spent, _ in each), BUSY * ANSWER_SECONDS, (method, when))
+            limit = BUSY * (FIRST_SECONDS if when == "at once" else ANSWER_SECONDS)
+            self.assertLess(statistics.median(found.spent for found in each), limit, (method, when))
+            self.assertLess(max(found.spent for found in each), limit, (method, when))
+            self.assertLess(max(found.busy for found in each), limit, (method, when))
 
     def test_documents(self):
         self.check(self.in_a_document())
@@ -267,20 +339,27 @@ class Answers(WithServer):
     def test_open_schemas(self):
         self.check(self.in_an_open_schema(4))
 
+    def test_schemas_with_pauses(self):
+        self.check(self.with_pauses(2))
+
     def test_first_requests(self):
         self.check(self.at_first(1))
+
+    def test_requests_at_once(self):
+        self.check(self.at_once(("completion", "documentSymbol", "formatting"), 1))
 
 
 def main():
     """Prints the times."""
-    for kind in [word for word in sys.argv[1:] if word != "--times"] or ("in_a_document", "in_a_schema", "in_an_open_schema", "at_first"):
+    for kind in [word for word in sys.argv[1:] if word != "--times"] or KINDS:
         case = Answers(kind)
         Answers.setUpClass()
         case.setUp()
-        print(f"{kind}: milliseconds of a processor, and by the clock: the median, and the worst")
+        print(f"{kind}: milliseconds of a processor; by the clock; by the clock without waits for a processor; until the client has read it: the median, and "
+              "the worst")
         for (method, when), times in getattr(case, kind)().items():
             shown = "   ".join(f"{1000 * statistics.median(each):6.1f} {1000 * max(each):6.1f}" for each in zip(*times))
-            print(f"    {method:26} {when:6} {shown}   of {len(times)}")
+            print(f"    {method:26} {when:7} {shown}   of {len(times)}")
         case.doCleanups()
 
 
