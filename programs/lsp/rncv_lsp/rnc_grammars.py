@@ -45,8 +45,8 @@ class Outlines:
         known = self.begin(file)
         while known.advance():
             pass
-        if known.lines is not file.lines:
-            known = Outline(lines_of(file), known)
+        if known.lines is not file.lines or not known.is_whole:
+            known = Outline(lines_of(file), known if known.is_whole else None)
             self._known[file.key] = known
         return known
 

@@ -14,6 +14,7 @@ from rncv_lsp.rnc_tokens import CNAME, DOC, LITERAL, OPEN, QUOTED, SIGN, WORD, L
 LAST_WORDS = ("empty", "text", "notAllowed", "string", "token")
 OPEN_SIGNS = ("=", "|=", "&=", "~", ">>")
 PARTNERS = {"}": "{", ")": "(", "]": "["}
+BRACKETS = frozenset("{}()[]")
 # What is found of a part when it is asked for.
 FOUND_ONCE = ("brackets", "blocks", "opened", "head", "spans", "by_text", "by_role", "defined")
 # How many ways to read a text are kept; how long a text is that is kept when it is gone, and all of them.
@@ -225,9 +226,11 @@ def scan_of(found: Lexed, words: str) -> Scan:
     """What is kept of the tokens of a part with this text."""
     comments = sorted(found.comments + [(token.start, token.end) for token in found.tokens if token.kind == DOC])
     lines = lines_at(words, [place for comment in comments for place in comment])
-    braces = [token for token in found.tokens if token.kind == SIGN and token.text in "{}[]"]
-    numbered = list(zip(lines_at(words, [token.start for token in braces]), [token.text for token in braces]))
-    return Scan(list(zip(lines[::2], lines[1::2])), numbered, found.open, is_settled(found), nesting_of(found))
+    brackets = [(text, start) for kind, text, start, _ in found.tokens if kind == SIGN and text in BRACKETS]
+    braces = [bracket for bracket in brackets if bracket[0] not in "()"]
+    numbered = list(zip(lines_at(words, [start for _, start in braces]), [sign for sign, _ in braces]))
+    nesting = nesting_of(sign for sign, _ in brackets) if not any(token.kind == OPEN for token in found.tokens) else None
+    return Scan(list(zip(lines[::2], lines[1::2])), numbered, found.open, is_settled(found), nesting)
 
 
 def lines_at(text: str, places: List[int]) -> List[int]:
@@ -242,20 +245,17 @@ def lines_at(text: str, places: List[int]) -> List[int]:
     return found
 
 
-def nesting_of(found: Lexed) -> Optional[Nesting]:
+def nesting_of(brackets: Iterable[str]) -> Optional[Nesting]:
     """How the brackets of a part nest."""
     closing, opening, most = [], [], 0  # type: List[str], List[str], int
-    for token in found.tokens:
-        if token.kind == OPEN:
-            return None
-        if token.kind == SIGN and token.text in ("{", "(", "["):
-            opening.append(token.text)
+    for sign in brackets:
+        if sign not in PARTNERS:
+            opening.append(sign)
             most = max(most, len(opening) - len(closing))
-        elif token.kind == SIGN and token.text in PARTNERS:
-            if not opening:
-                closing.append(token.text)
-            elif opening.pop() != PARTNERS[token.text]:
-                return None
+        elif not opening:
+            closing.append(sign)
+        elif opening.pop() != PARTNERS[sign]:
+            return None
     return Nesting("".join(closing), "".join(opening), most)
 
 

@@ -76,12 +76,13 @@ class Outline:
         self._old: Optional[Outline] = before
         self._known = before._known if before is not None else Known()
         self._fresh: Tuple[int, str, Lexed] = 0, "", lexed("")
+        self.is_whole = False
         self._lock, self._steps = threading.Lock(), self._read()
         while not is_begun and self.advance():
             pass
 
     def advance(self) -> bool:
-        """Reads the next part. False: all are read."""
+        """Reads the next part. False: all are read, or a fault has ended the reading."""
         with self._lock:
             return next(self._steps, False)
 
@@ -115,7 +116,7 @@ class Outline:
             index, state = end, part.after(state)
             yield True
         self._known.move(parts[same.count:], self.parts[same.count:])
-        self._old = None
+        self._old, self.is_whole = None, True
 
     def _places_behind(self, same: Same, places: List[int]) -> List[int]:
         """Where parts may begin behind those of the text before, up to its end."""

@@ -8,11 +8,12 @@ from typing import Callable, List, NamedTuple, Optional, Tuple
 from rncv_lsp.outside import ESCAPE, KEYWORDS, NCNAME, character, meaning
 
 WORD, QUOTED, CNAME, NSNAME, LITERAL, OPEN, SIGN, DOC = "word", "quoted", "cname", "nsname", "literal", "open", "sign", "doc"
-# A literal in three quotes begins as an empty one with a quote behind it.
-LOOSE = re.compile(rf"""(?P<sign>>>|\|=|&=|[]=,|&?*+{{}}()[~-])
-                      | (?P<nsname>{NCNAME}:\*) | (?P<cname>{NCNAME}:{NCNAME}) | (?P<word>{NCNAME}) | (?P<quoted>\\{NCNAME})
+# A literal in three quotes begins as an empty one with a quote behind it. What is no blank is looked for first, and a name is gone through once: both take
+# less time than to try each kind of token at each blank, and each kind of name.
+LOOSE = re.compile(rf"""(?=[^ \t\r\n])(?: (?P<sign>>>|\|=|&=|[]=,|&?*+{{}}()[~-])
+                      | (?P<word>{NCNAME})(?:(?P<nsname>:\*)|(?P<cname>:{NCNAME}))? | (?P<quoted>\\{NCNAME})
                       | (?P<literal>"[^"\r\n]*" | '[^'\r\n]*') | (?P<open>["'][^\r\n]*)
-                      | (?P<doc>\#\#[^\r\n]*) | (?P<comment>\#[^\r\n]*(?:(?:\r\n|\r|\n)[ \t]*\#(?!\#)[^\r\n]*)*)""", re.X)
+                      | (?P<doc>\#\#[^\r\n]*) | (?P<comment>\#[^\r\n]*(?:(?:\r\n|\r|\n)[ \t]*\#(?!\#)[^\r\n]*)*) )""", re.X)
 
 
 class Token(NamedTuple):

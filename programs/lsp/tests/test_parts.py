@@ -13,14 +13,17 @@ import unittest.mock
 from client import TOP
 
 sys.path.insert(0, str(TOP / "programs/lsp"))
+from rncv_lsp.documents import new_document  # noqa: E402
 from rncv_lsp.rnc_ahead import ahead  # noqa: E402
 from rncv_lsp.rnc_completion import spot_of  # noqa: E402
+from rncv_lsp.rnc_grammars import Outlines  # noqa: E402
 from rncv_lsp.rnc_indent import indented  # noqa: E402
 from rncv_lsp.rnc_parts import Outline  # noqa: E402
 from rncv_lsp.rnc_places import Lines  # noqa: E402
 from rncv_lsp.rnc_symbols import foldings, tree  # noqa: E402
 from rncv_lsp.rnc_tokens import lexed  # noqa: E402
 from rncv_lsp.rnc_tree import written_tree  # noqa: E402
+from rncv_lsp.schema_files import opened  # noqa: E402
 from rncv_lsp.texts import CODECS, Piece, Text  # noqa: E402
 
 # Words of which texts are made at random.
@@ -199,6 +202,14 @@ class Parts(unittest.TestCase):
             steps += 1
         self.assertLess(steps, 5)
         self.assertEqual(told(after), told(Outline(changed)))
+
+    def test_a_fault_in_a_reading(self):
+        outlines, file = Outlines(), opened(new_document({"uri": "urn:s.rnc", "text": "start = a\na = text\n"}))
+        with unittest.mock.patch("rncv_lsp.rnc_parts.read", side_effect=MemoryError):
+            self.assertRaises(MemoryError, outlines.begin(file).advance)
+            self.assertRaises(MemoryError, outlines.of, file)
+        self.assertEqual(told(outlines.of(file)), told(Outline(file.lines)))
+        self.assertIs(outlines.of(file), outlines.begin(file))
 
     def test_tokens_stay(self):
         chosen = random.Random(5)
