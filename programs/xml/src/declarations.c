@@ -17,7 +17,6 @@ enum {
     MOST_LOADED = 67108864, /* bytes of external entities */
     MOST_WRITTEN = 67108864, /* bytes of texts that are written for libxml2 */
     REFERENCE_COST = 256,  /* of a reference, in bytes */
-    EMPTY_PLACES = 4096,   /* at which an empty entity is read in turn */
     EXPANDED_BYTES = 67108864 /* what entities may give in any document */
 };
 
@@ -59,7 +58,6 @@ void declarations_free(struct declarations *declarations) {
         free(declarations->defaults[at].value);
     }
     free(declarations->defaults);
-    free(declarations->ends);
     xmlHashFree(declarations->counts, NULL);
     xmlHashFree(declarations->heights, NULL);
 }
@@ -476,7 +474,7 @@ static bool is_for_value(const struct declarations *declarations, const xmlEntit
     for (const struct level *level = declarations->level; level != NULL && !is_in_itself; level = level->outer) {
         is_in_itself = level->entity == entity;
     }
-    return !is_in_itself && entity != NULL && entity->etype == XML_INTERNAL_GENERAL_ENTITY && entity->content != NULL && entity->_private != entity;
+    return !is_in_itself && entity->etype == XML_INTERNAL_GENERAL_ENTITY && entity->content != NULL && entity->_private != entity;
 }
 
 /* The entity of a name, or NULL. */
@@ -503,7 +501,7 @@ static void put_into_value(void *context, struct span name, struct bytes *text) 
     } else if (entity != NULL && entity->etype == XML_EXTERNAL_GENERAL_PARSED_ENTITY) {
         fault_set(declarations->feed->fault, FAULT_MALFORMED, declarations_place(declarations), "malformed XML: external entity '%s' in the value of an attribute",
                   plain(entity->name));
-    } else if (!is_for_value(declarations, entity)) {
+    } else if (entity == NULL || !is_for_value(declarations, entity)) {
         bytes_add_byte(text, '&');
         bytes_add(text, name.data, name.length);
         bytes_add_byte(text, ';');
@@ -676,21 +674,29 @@ xmlEntityPtr declarations_general(struct declarations *declarations, const xmlCh
     return rewritten(declarations, entity, is_in_value);
 }
 
-/* An entity without text, at another place each time. */
-static xmlEntityPtr empty(struct declarations *declarations) {
-    if (declarations->ends == NULL) {
-        declarations->ends = calloc(EMPTY_PLACES, 1);
-        if (declarations->ends == NULL) {
-            out_of_memory(declarations);
-            return NULL;
-        }
+/* Whether a step of libxml2 may end with a reference. It may if a declaration or the beginning of the subset is before it. Behind another reference, and at the
+ * beginning of an entity, it is among the blanks of the next step, as any number of references may be. */
+static bool may_end_step(const xmlParserCtxt *parser, const xmlChar *name) {
+    const xmlParserInput *input = parser->input;
+    size_t length = strlen("%;") + strlen((const char *)name);
+    if (parser->depth > 0) {
+        return false; /* in the value of an entity */
     }
-    declarations->next_end = (declarations->next_end + 1) % EMPTY_PLACES;
-    declarations->nothing.content = declarations->ends + declarations->next_end;
+    const xmlChar *at = (size_t)(input->cur - input->base) > length ? input->cur - length : input->base;
+    while (at > input->base && strchr(" \t\n\r", at[-1]) != NULL) {
+        at--;
+    }
+    return at > input->base ? at[-1] == '>' || at[-1] == '[' : parser->inputNr == 1;
+}
+
+/* An entity without text. */
+static xmlEntityPtr empty(struct declarations *declarations) {
+    declarations->nothing.content = &declarations->ends[declarations->is_second];
     return &declarations->nothing;
 }
 
-/* The entity or its twin, in turn. Between declarations blanks alone are nothing. */
+/* The entity or its twin, in turn. Between declarations blanks alone are nothing. A step ends at the beginning of a text, or at a declaration in it, which is
+ * read once for each reference. */
 static xmlEntityPtr in_turn(struct declarations *declarations, xmlEntityPtr entity) {
     const char *text = plain(entity->content);
     if (text[strspn(text, " \t\n\r")] == '\0') {
@@ -711,7 +717,8 @@ static xmlEntityPtr in_turn(struct declarations *declarations, xmlEntityPtr enti
             out_of_memory(declarations);
         }
     }
-    twin->is_next = !twin->is_next && twin->entity.content != NULL;
+    bool is_next = strchr(text, '<') == NULL ? declarations->is_second : !twin->is_next;
+    twin->is_next = is_next && twin->entity.content != NULL;
     return twin->is_next ? &twin->entity : entity;
 }
 
@@ -762,6 +769,7 @@ xmlEntityPtr declarations_parameter(struct declarations *declarations, const xml
     if (is_after_declaration(feed->parser)) {
         return entity;
     }
+    declarations->is_second ^= may_end_step(feed->parser, name);
     if (declarations->has_dropped) {
         refuse(declarations, "a reference behind a parameter entity whose system identifier is no URI: outside the profile");
     }

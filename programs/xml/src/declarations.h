@@ -17,8 +17,8 @@ struct namespace_default {
 
 /* An entity of our own beside one of libxml2: the text of an external entity, a text that `entity_text.h` writes, or a second copy of a parameter entity.
  *
- * libxml2 takes it for an error if a declaration ends at the place in memory at which the one before it ended. So a parameter entity is read from two places
- * in turn, and an empty one from many. */
+ * libxml2 reads a subset in steps: blanks with references among them, a declaration, and a reference directly behind that. It takes it for an error if a step
+ * ends at the place in memory at which it began. So a parameter entity is read from two places in turn. */
 struct twin {
     xmlEntity entity;
     bool is_next;
@@ -57,8 +57,8 @@ struct declarations {
     xmlHashTablePtr counts; /* how many attributes with defaults an element has, and which attributes it has */
     int table_size;         /* how many elements had defaults when libxml2's table of them was last made larger */
     xmlEntity nothing;      /* is read instead of a parameter entity that is not loaded, or that has blanks alone */
-    xmlChar *ends;          /* the ends of texts, at which it is read in turn */
-    size_t next_end;
+    xmlChar ends[2];        /* the ends of texts, at which it is read in turn */
+    bool is_second;         /* whose turn it is, of the two places of an entity without declarations */
     struct twin *twins;
     xmlEntity plain;        /* an entity of text alone, which libxml2 takes as it takes `&lt;` */
     xmlEntity skipped;      /* is read instead of an entity that is not declared */

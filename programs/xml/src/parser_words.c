@@ -49,6 +49,10 @@ const char *limit_words(parser_error *error) {
 /* Adds libxml2's own words, without the names of its functions. */
 static void add_own(struct bytes *line, const char *message) {
     const char *colon = strstr(message, ": ");
+    if (strstr(message, "Markup declaration") != NULL) { /* an internal error, which has no code of its own */
+        bytes_add_text(line, "neither a declaration nor the end of the document type");
+        return;
+    }
     if (strncmp(message, "internal error", 14) == 0 || strncmp(message, "detected an error", 17) == 0) {
         bytes_add_text(line, "not well-formed");
         return;

@@ -1,4 +1,5 @@
 """Tests of `rncv-xml`: its lines, statuses, options and ends."""
+import itertools
 import json
 import os
 import re
@@ -340,6 +341,23 @@ class Lines(InFolder):
         self.assertEqual(errors.splitlines()[-1],
                          "plain.xml:1:1: note: the external DTD 'def.dtd' is not loaded: its entities and attribute defaults are not there")
 
+    def test_parameter_entities_in_any_order(self):
+        """They may be referred to in any order and as often as one likes, whatever libxml2 takes for a loop."""
+        head = "<!ENTITY % e ''><!ENTITY % n '&#37;e; &#37;u;'><!ENTITY % c '<!--x-->&#37;n;'>"
+        names = []
+        for number, parts in enumerate(itertools.product(("%e;", "%n;", "%c;", "<!--x-->", " "), repeat=4)):
+            subset = "".join(parts)
+            self.write(f"{number}.dtd", head + subset)
+            names.append(self.write(f"d{number}.xml", f"<!DOCTYPE a [{head}{subset}]><a x='1'/>"))
+            names.append(self.write(f"e{number}.xml", f"<!DOCTYPE a SYSTEM '{number}.dtd'><a x='1'/>"))
+            names.append(self.write(f"p{number}.xml", f"<!DOCTYPE a [<!ENTITY % p SYSTEM '{number}.dtd'>%p;{subset}%p;]><a x='1'/>"))
+        self.assertEqual(self.judge("--dtd", "s.rnc", *names), ("", 0))
+
+    def test_what_is_no_declaration(self):
+        for subset in ("x", "<!X>", "&lt;", "<![IGNORE[]]>", "<!ENTITY % p 'x'>%p;"):
+            self.assertRegex(self.line(SCHEMA, f"<!DOCTYPE a [{subset}]><a x='1'/>")[0],
+                             r"^d\.xml:1:\d+: malformed XML: neither a declaration nor the end of the document type\n$")
+
     def test_strict(self):
         self.write("e.rnc", 'element a { attribute x { "" }? }\n')
         self.write("plain.xml", '<!DOCTYPE a SYSTEM "def.dtd"><a x=""/>')
@@ -622,6 +640,7 @@ class Ends(InFolder):
 
     def test_little_memory(self):
         """However little memory there is, nothing is called valid, and nothing crashes."""
+        self.without_sanitizers(RNCV_XML)
         bounded = ("import os, resource, sys\n"
                    "resource.setrlimit(resource.RLIMIT_AS, (int(sys.argv[1]) * 1024,) * 2)\n"
                    "os.execv(sys.argv[2], sys.argv[2:])\n")
@@ -644,6 +663,7 @@ class Ends(InFolder):
             self.assertRegex(run.stdout.read(), b"^-:1:10: malformed P11: ")
 
     def test_costs(self):
+        self.without_sanitizers(RNCV_XML)
         self.write("r.rnc", "element r { element b { attribute x { text }, text }* }")
         small, large = (peak_of([RNCV_XML, "-j1", self.folder / "r.rnc", self.write("d.xml", "<r>" + '<b x="1">t</b>\n' * count + "</r>")])
                         for count in (20_000, 400_000))

@@ -72,6 +72,11 @@ class InFolder(unittest.TestCase):
             if not shutil.which(program):
                 self.skipTest(f"{program} is not installed")
 
+    def without_sanitizers(self, program):
+        """Skips a test of memory if the program is built with AddressSanitizer. That keeps freed memory, and needs terabytes of addresses to begin with."""
+        if b"__asan_init" in program.read_bytes():
+            self.skipTest(f"{program.name} is built with sanitizers, which take memory themselves")
+
 
 def processor_seconds():
     """The seconds of a processor that ended programs took. A busy machine does not change them much, as it changes the seconds on the clock."""
