@@ -6,12 +6,15 @@
 #include <errno.h>
 #include <fcntl.h>
 #include <libxml/catalog.h>
+#include <pthread.h>
 #include <stdlib.h>
 #include <string.h>
 #include <sys/stat.h>
 #include <unistd.h>
 
 enum { PIECE_BYTES = 65536, MOST_BYTES = 16777216 };
+
+static pthread_once_t has_catalogs = PTHREAD_ONCE_INIT;
 
 static bool fails(struct fault *fault, enum fault_kind kind, const char *what) {
     fault_set(fault, kind, (struct place){0, 0}, "%s", what);
@@ -59,6 +62,8 @@ static bool add_path(struct bytes *path, const char *uri) {
 static bool find(const xmlChar *public, const xmlChar *uri, struct bytes *path) {
     /* what the catalogs keep is of no conversion */
     parser_memory_pause(true);
+    /* libxml2 makes the lock of the catalogs at their first use. If two threads did that at once, they would wait forever */
+    (void)pthread_once(&has_catalogs, xmlInitializeCatalog);
     xmlChar *mapped = xmlCatalogResolve(public, uri);
     bool is_found = add_path(path, mapped == NULL ? (const char *)uri : (const char *)mapped);
     xmlFree(mapped);
