@@ -297,8 +297,14 @@ static void take_note(void *context, struct place place, const char *what) {
 
 void convert(const struct byte_source *source, const struct pyx_sink *sink, struct fault *fault) {
     struct writer writer = {.sink = sink, .fault = fault, .pyx = NO_BYTES, .first = 1};
-    struct event_sink events = {take_start, take_text, take_end, take_instruction, take_note, flush, NULL, NULL, NULL, NULL, &writer, false, sink->reads_prefixes,
-                                0, 0, 0};
+    struct event_sink events = {.start = take_start,
+                                .text = take_text,
+                                .end = take_end,
+                                .instruction = take_instruction,
+                                .note = take_note,
+                                .flush = flush,
+                                .context = &writer,
+                                .reads_prefixes = sink->reads_prefixes};
     read_events(source, &events, fault);
     /* what comes before a fault of the document may have another one, which is the first then */
     if (fault->kind <= FAULT_OUTSIDE) {

@@ -499,8 +499,8 @@ static void put_into_value(void *context, struct span name, struct bytes *text) 
     } else if (declarations->level->depth > MOST_LEVELS) {
         refuse(declarations, too_deep);
     } else if (entity != NULL && entity->etype == XML_EXTERNAL_GENERAL_PARSED_ENTITY) {
-        fault_set(declarations->feed->fault, FAULT_MALFORMED, declarations_place(declarations), "malformed XML: external entity '%s' in the value of an attribute",
-                  plain(entity->name));
+        fault_set(declarations->feed->fault, FAULT_MALFORMED, declarations_place(declarations),
+                  "malformed XML: external entity '%s' in the value of an attribute", plain(entity->name));
     } else if (entity == NULL || !is_for_value(declarations, entity)) {
         bytes_add_byte(text, '&');
         bytes_add(text, name.data, name.length);

@@ -52,6 +52,8 @@ struct reader {
 };
 
 static const char control_character[] = "a control character by a reference, which XML 1.1 has: outside the profile";
+static const char control_in_namespace[] =
+    "a namespace with a control character of XML 1.1, and the schema has one with U+007F: outside the profile";
 
 /* The reader of this thread's document. libxml2 reports some errors without it. */
 static _Thread_local struct reader *current = NULL;
@@ -528,8 +530,7 @@ static bool has_control_in_namespace(const struct start_event *start) {
 /* Reads the tag by the rules of XML 1.1. */
 static void read_1_1(struct reader *reader, struct start_event *start) {
     if (reader->feed.controls.has_marks && has_control_in_namespace(start)) {
-        fault_set(reader->fault, FAULT_OUTSIDE, place_of(start->position), "%s",
-                  reader->sink.spells == NULL ? control_character : "a namespace with a control character of XML 1.1, and the schema has one with U+007F: outside the profile");
+        fault_set(reader->fault, FAULT_OUTSIDE, place_of(start->position), "%s", reader->sink.spells == NULL ? control_character : control_in_namespace);
     }
     take_withdrawn(reader, start);
 }

@@ -479,8 +479,8 @@ static OUT_OF_LINE void take_any_text(struct judging *judging, struct position p
 
 /* Takes a piece of a text. Mostly it is the first one, and in the document as it is: then it is not copied. Of the status take_start says enough.
  *
- * The library is not told of a blank text beside an element, since such a text changes no verdict (RELAX NG Specification, section 6.2.7; blank_string_laws of the
- * crate blank_strings). Whether one is beside an element shows at the next start or end. */
+ * The library is not told of a blank text beside an element, since such a text changes no verdict (RELAX NG Specification, section 6.2.7; blank_string_laws
+ * of the crate blank_strings). Whether one is beside an element shows at the next start or end. */
 static void take_text(void *context, struct position position, struct span text, bool is_raw) {
     struct judging *judging = context;
     struct gap *gap = &judging->next->gap;
@@ -707,8 +707,20 @@ static void answer_all(struct judging *judging) {
 
 static void read_source(struct judging *judging, const struct byte_source *source) {
     const struct shared *shared = judging->judge->shared;
-    struct event_sink sink = {take_start, take_text, take_end, take_instruction, take_note, NULL, keep, held, take_control, spells, judging, true, false, shared->depth,
-                              shared->memory, shared->attributes};
+    struct event_sink sink = {.start = take_start,
+                              .text = take_text,
+                              .end = take_end,
+                              .instruction = take_instruction,
+                              .note = take_note,
+                              .keep = keep,
+                              .held = held,
+                              .control = take_control,
+                              .spells = spells,
+                              .context = judging,
+                              .checks_names = true,
+                              .depth = shared->depth,
+                              .memory = shared->memory,
+                              .attributes = shared->attributes};
     read_events(source, &sink, judging->fault);
 }
 

@@ -12,7 +12,8 @@ static bool stays(xmlDictPtr dictionary, const xmlChar *text) {
 const struct event_name *known_name_new(struct known_names *names, xmlDictPtr dictionary, const xmlChar *local, const xmlChar *prefix, const xmlChar *uri,
                                         const xmlChar *told) {
     struct event_name name = {span_of(prefix), span_of(local), span_of(told)};
-    if (local == NULL || (name.prefix.length > 0 && name.uri.length == 0) || !stays(dictionary, local) || !stays(dictionary, prefix) || !stays(dictionary, uri)) {
+    bool is_undeclared = name.prefix.length > 0 && name.uri.length == 0;
+    if (local == NULL || is_undeclared || !stays(dictionary, local) || !stays(dictionary, prefix) || !stays(dictionary, uri)) {
         names->other = name;
         return &names->other;
     }

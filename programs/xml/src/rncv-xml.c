@@ -372,8 +372,17 @@ static int run(const struct options *options, struct streams streams) {
     struct documents documents;
     char room[4096];
     const char *page = find_clause_page(room, sizeof room);
-    struct shared shared = {.schema = RNCV_NOTHING, .datatypes = options->datatypes, .streams = streams, .depth = options->depth, .memory = options->memory,
-                            .attributes = options->attributes, .is_strict = options->refuses_notes, .loads_dtd = options->loads_dtd, .page = page, .tick = progress_tick, .context = &progress};
+    struct shared shared = {.schema = RNCV_NOTHING,
+                            .datatypes = options->datatypes,
+                            .streams = streams,
+                            .depth = options->depth,
+                            .memory = options->memory,
+                            .attributes = options->attributes,
+                            .is_strict = options->refuses_notes,
+                            .loads_dtd = options->loads_dtd,
+                            .page = page,
+                            .tick = progress_tick,
+                            .context = &progress};
     atomic_init(&shared.bytes_read, 0);
     documents_open(&documents, options, streams);
     progress_open(&progress, !options->is_quiet && isatty(2), documents.known, &shared.bytes_read);

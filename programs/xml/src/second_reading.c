@@ -351,8 +351,19 @@ static bool spells(void *context) {
 
 static void read_again(struct second_pass *pass, const struct shared *shared, const struct byte_source *source) {
     struct fault fault = NO_FAULT;
-    struct event_sink sink = {take_start, take_text, take_end, take_instruction, take_note, NULL, NULL, held, take_control, spells, pass, true, false, shared->depth,
-                              shared->memory, shared->attributes};
+    struct event_sink sink = {.start = take_start,
+                              .text = take_text,
+                              .end = take_end,
+                              .instruction = take_instruction,
+                              .note = take_note,
+                              .held = held,
+                              .control = take_control,
+                              .spells = spells,
+                              .context = pass,
+                              .checks_names = true,
+                              .depth = shared->depth,
+                              .memory = shared->memory,
+                              .attributes = shared->attributes};
     pass->fault = &fault;
     read_events(source, &sink, &fault);
     fault_free(&fault);
