@@ -1,7 +1,10 @@
 #include "declarations.h"
 
+#include "entity_balance.h"
+#include "entity_heights.h"
 #include "entity_text.h"
 #include "external.h"
+#include "nested_parameters.h"
 #include "parser_memory.h"
 
 #include <libxml/SAX2.h>
@@ -11,16 +14,13 @@
 #include <string.h>
 
 enum {
-    MOST_LEVELS = 500,      /* entities in one another: libxml2 calls itself for an entity in an entity, and goes some 510 levels down */
     MOST_DEFAULTS = 1000,   /* declarations of namespaces by default, or of attributes with a default for one element, unless more is allowed than usual */
     FEW_ELEMENTS = 64,      /* with defaults, for which the table of libxml2 is large enough */
-    MOST_LOADED = 67108864, /* bytes of external entities */
-    MOST_WRITTEN = 67108864, /* bytes of texts that are written for libxml2 */
-    REFERENCE_COST = 256,  /* of a reference, in bytes */
-    EXPANDED_BYTES = 67108864 /* what entities may give in any document */
+    REFERENCE_COST = 256,   /* of a reference, in bytes */
+    PARTS_OF_MEMORY = 8     /* into which the memory for a document is divided: texts that are written for libxml2, and external entities, have one each */
 };
 
-static const char too_deep[] = "more than 500 entities in one another: outside the profile";
+const char too_many_entities[] = "more than %s entities are in one another";
 
 static const char *plain(const xmlChar *text) {
     return text == NULL ? "" : (const char *)text;
@@ -60,6 +60,7 @@ void declarations_free(struct declarations *declarations) {
     free(declarations->defaults);
     xmlHashFree(declarations->counts, NULL);
     xmlHashFree(declarations->heights, NULL);
+    nested_parameters_free(&declarations->nested);
 }
 
 /* Whether libxml2 reads the text of an entity, or the external DTD. */
@@ -87,7 +88,7 @@ static void refuse(struct declarations *declarations, const char *what) {
     fault_set(declarations->feed->fault, FAULT_OUTSIDE, declarations_place(declarations), "%s", what);
 }
 
-static void out_of_memory(struct declarations *declarations) {
+void declarations_out_of_memory(struct declarations *declarations) {
     fault_set(declarations->feed->fault, FAULT_MEMORY, (struct place){0, 0}, "out of memory");
 }
 
@@ -106,7 +107,7 @@ static void note_of(struct declarations *declarations, struct place place, const
     bytes_format(&line, what, plain(name));
     const char *note = bytes_text(&line);
     if (line.failed) {
-        out_of_memory(declarations);
+        declarations_out_of_memory(declarations);
     } else {
         parser_memory_pause(true);
         declarations->sink->note(declarations->sink->context, place, note);
@@ -209,13 +210,18 @@ void declarations_entity(struct declarations *declarations, bool is_parameter, x
     struct span span = {(const char *)text, strlen((const char *)text)};
     declarations->has_blank_references |= !is_parameter && has_blank_reference(span);
     check_text(declarations, span, is_parameter);
-    bool is_external = declarations->feed->is_away || declarations->feed->parser->input->filename != NULL;
     struct span name;
     declarations->referring += !is_parameter && entity_text_next(&span, &name);
-    declarations->parametric += is_parameter && !is_external && memchr(span.data, '%', span.length) != NULL;
-    if (declarations->parametric > MOST_LEVELS) {
-        refuse(declarations, "more than 500 parameter entities that refer to others: outside the profile");
-    }
+}
+
+/* How many bytes may be read or written for one purpose. */
+static uint64_t part_of_memory(const struct declarations *declarations) {
+    return declarations->feed->most / PARTS_OF_MEMORY;
+}
+
+/* Refuses the document, in which something has more than that. The words have `%s` in the place of the number. */
+static void refuse_part(struct declarations *declarations, const char *what) {
+    feed_refuse(declarations->feed, declarations_place(declarations), what, part_of_memory(declarations), "--max-memory");
 }
 
 /* Whether so many defaults are too many. Then the document is refused. libxml2 compares them in pairs for each tag, so there may be fewer than attributes of a
@@ -238,7 +244,7 @@ static void keep_default(struct declarations *declarations, const xmlChar *eleme
         size_t capacity = declarations->default_capacity == 0 ? 8 : 2 * declarations->default_capacity;
         struct namespace_default *defaults = realloc(declarations->defaults, capacity * sizeof *defaults);
         if (defaults == NULL) {
-            out_of_memory(declarations);
+            declarations_out_of_memory(declarations);
             return;
         }
         declarations->defaults = defaults;
@@ -257,7 +263,7 @@ static void keep_default(struct declarations *declarations, const xmlChar *eleme
     bool is_lost = unmarked.failed;
     bytes_free(&unmarked);
     if (is_lost || kept->element == NULL || kept->name == NULL || kept->value == NULL) {
-        out_of_memory(declarations);
+        declarations_out_of_memory(declarations);
     }
 }
 
@@ -270,7 +276,7 @@ static bool is_first(struct declarations *declarations, const xmlChar *element, 
         return false;
     }
     if (declarations->counts == NULL || xmlHashAddEntry2(declarations->counts, element, name, declarations) != 0) {
-        out_of_memory(declarations);
+        declarations_out_of_memory(declarations);
     }
     return true;
 }
@@ -291,7 +297,7 @@ static void grow_table(struct declarations *declarations) {
     }
     if (larger == NULL || xmlHashSize(larger) != size) {
         xmlHashFree(larger, NULL);
-        out_of_memory(declarations);
+        declarations_out_of_memory(declarations);
         return;
     }
     xmlHashFree(parser->attsDefault, NULL);
@@ -303,7 +309,7 @@ static void grow_table(struct declarations *declarations) {
 static void count_default(struct declarations *declarations, const xmlChar *element) {
     uintptr_t count = (uintptr_t)xmlHashLookup(declarations->counts, element) + 1;
     if (xmlHashUpdateEntry(declarations->counts, element, (void *)count, NULL) != 0) {
-        out_of_memory(declarations);
+        declarations_out_of_memory(declarations);
     } else if (!are_too_many(declarations, count, "more than %s declarations of attributes with defaults for one element") &&
                xmlHashSize(declarations->feed->parser->attsDefault) >= 8 * declarations->table_size + FEW_ELEMENTS) {
         grow_table(declarations);
@@ -329,7 +335,7 @@ void declarations_attribute(struct declarations *declarations, const xmlChar *el
 bool declarations_count(struct declarations *declarations, uint64_t bytes) {
     uint64_t read = feed_offset(declarations->feed) + declarations->loaded;
     declarations->expanded += bytes;
-    return declarations->expanded <= EXPANDED_BYTES || declarations->expanded / MOST_GROWTH <= read;
+    return declarations->expanded <= part_of_memory(declarations) || declarations->expanded / MOST_GROWTH <= read;
 }
 
 /* Counts what a reference gives. False: entities give too much. */
@@ -337,7 +343,7 @@ static bool count_reference(struct declarations *declarations, const xmlEntity *
     /* libxml2 passes all open namespaces to the parser of the entity */
     uint64_t namespaces = (uint64_t)declarations->feed->parser->nsNr;
     if (!declarations_count(declarations, REFERENCE_COST + 8 * namespaces + (entity->length > 0 ? (uint64_t)entity->length : 0))) {
-        refuse(declarations, "entities of more than 100 times the document's length: outside the profile");
+        refuse_part(declarations, "entities give more than 100 times the document's length, and more than %s bytes");
         return false;
     }
     if (feed_is_over(declarations->feed)) {
@@ -350,7 +356,7 @@ static bool count_reference(struct declarations *declarations, const xmlEntity *
 static struct twin *new_twin(struct declarations *declarations) {
     struct twin *twin = calloc(1, sizeof *twin);
     if (twin == NULL) {
-        out_of_memory(declarations);
+        declarations_out_of_memory(declarations);
         return NULL;
     }
     twin->before = declarations->twins;
@@ -363,7 +369,7 @@ static void refuse_external(struct declarations *declarations, const xmlChar *sy
     struct bytes what = NO_BYTES;
     bytes_format(&what, "'%s' is not loaded, %s: outside the profile", plain(system), bytes_text(&why->what));
     if (why->kind == FAULT_MEMORY || what.failed) {
-        out_of_memory(declarations);
+        declarations_out_of_memory(declarations);
     } else {
         refuse(declarations, bytes_text(&what));
     }
@@ -388,8 +394,8 @@ static struct twin *load(struct declarations *declarations, const xmlEntity *ent
         declarations->loaded += text.length;
         mark(declarations, text.data, text.length, type == XML_INTERNAL_PARAMETER_ENTITY);
         check_text(declarations, (struct span){text.data, text.length}, type == XML_INTERNAL_PARAMETER_ENTITY);
-        if (declarations->loaded > MOST_LOADED) {
-            refuse(declarations, "over a limit of this program: external entities of more than 67,108,864 bytes");
+        if (declarations->loaded > part_of_memory(declarations)) {
+            refuse_part(declarations, "external entities have more than %s bytes");
         }
         twin->entity = *entity;
         twin->entity.etype = type;
@@ -402,7 +408,7 @@ static struct twin *load(struct declarations *declarations, const xmlEntity *ent
         xmlFree(uri);
         is_read = twin->entity.content != NULL && twin->entity.URI != NULL && !text.failed;
         if (!is_read) {
-            out_of_memory(declarations);
+            declarations_out_of_memory(declarations);
         }
     }
     bytes_free(&text);
@@ -468,49 +474,105 @@ static xmlEntityPtr external_of(struct declarations *declarations, xmlEntityPtr 
     return NULL;
 }
 
-/* Whether an entity is a text that may be put into a value, and is not being put there. */
-static bool is_for_value(const struct declarations *declarations, const xmlEntity *entity) {
-    bool is_in_itself = false;
-    for (const struct level *level = declarations->level; level != NULL && !is_in_itself; level = level->outer) {
-        is_in_itself = level->entity == entity;
-    }
-    return !is_in_itself && entity->etype == XML_INTERNAL_GENERAL_ENTITY && entity->content != NULL && entity->_private != entity;
-}
-
-/* The entity of a name, or NULL. */
-static xmlEntityPtr entity_of(struct declarations *declarations, struct span name) {
+xmlEntityPtr declarations_entity_of(struct declarations *declarations, struct span name) {
     struct bytes written = NO_BYTES;
     bytes_add(&written, name.data, name.length);
     const char *text = bytes_text(&written);
     if (written.failed) {
-        out_of_memory(declarations);
+        declarations_out_of_memory(declarations);
     }
     xmlEntityPtr entity = xmlSAX2GetEntity(declarations->feed->parser, (const xmlChar *)text);
     bytes_free(&written);
     return entity;
 }
 
-/* Puts the text of an entity into a value. One that is not put there is left to libxml2, which finds out why. */
-static void put_into_value(void *context, struct span name, struct bytes *text) {
+xmlChar *declarations_room(struct declarations *declarations, size_t size) {
+    struct twin *twin = new_twin(declarations);
+    xmlChar *room = twin == NULL ? NULL : malloc(size);
+    if (room == NULL) {
+        declarations_out_of_memory(declarations);
+    } else {
+        twin->entity.content = room;
+    }
+    return room;
+}
+
+static struct span text_of(const xmlEntity *entity) {
+    return (struct span){plain(entity->content), (size_t)entity->length};
+}
+
+/* The twins of an entity. NULL: out of memory. */
+static struct twin *twins_of(struct declarations *declarations, xmlEntityPtr entity) {
+    if (entity->_private == NULL) {
+        entity->_private = new_twin(declarations);
+    }
+    return entity->_private;
+}
+
+/* Notes that the text of an entity is being put somewhere. */
+static void open_twin(struct declarations *declarations, struct twin *twin) {
+    twin->outer = declarations->open;
+    twin->is_open = true;
+    declarations->open = twin;
+    declarations->open_count++;
+}
+
+static void close_twin(void *context) {
     struct declarations *declarations = context;
-    const xmlEntity *entity = entity_of(declarations, name);
-    if (declarations->written + text->length > MOST_WRITTEN) {
-        refuse(declarations, "over a limit of this program: entities in attributes of entities of more than 67,108,864 bytes");
-    } else if (declarations->level->depth > MOST_LEVELS) {
-        refuse(declarations, too_deep);
-    } else if (entity != NULL && entity->etype == XML_EXTERNAL_GENERAL_PARSED_ENTITY) {
+    declarations->open->is_open = false;
+    declarations->open = declarations->open->outer;
+    declarations->open_count--;
+}
+
+/* Whether the text of an entity may be put somewhere, and is not being put there. */
+static bool may_be_put(struct declarations *declarations, xmlEntityPtr entity, bool is_in_value) {
+    if (entity == NULL || entity->etype != XML_INTERNAL_GENERAL_ENTITY || entity->content == NULL || entity->_private == entity) {
+        return false;
+    }
+    struct twin *twin = twins_of(declarations, entity);
+    if (twin == NULL || twin->is_open) {
+        return false;
+    }
+    if (!is_in_value && twin->balance == BALANCE_UNKNOWN) {
+        twin->balance = entity_is_balanced(text_of(entity)) ? BALANCED : UNBALANCED;
+    }
+    return is_in_value || twin->balance == BALANCED;
+}
+
+/* The most entities that may be in one another. */
+static size_t most_levels(const struct declarations *declarations) {
+    size_t most = declarations->feed->most_depth;
+    return most > LEVELS_OF_LIBXML2 ? most : LEVELS_OF_LIBXML2;
+}
+
+static void refuse_levels(struct declarations *declarations) {
+    feed_refuse(declarations->feed, declarations_place(declarations), too_many_entities, most_levels(declarations), "--max-depth");
+}
+
+/* Gives the text of an entity that is to be put in the place of a reference. A reference that stays is left to libxml2, which finds out why. */
+static bool give_text(void *context, struct span name, bool is_in_value, struct span *text) {
+    struct declarations *declarations = context;
+    if (declarations->feed->fault->kind != FAULT_NONE || (!is_in_value && !declarations->fills_content)) {
+        return false;
+    }
+    xmlEntityPtr entity = declarations_entity_of(declarations, name);
+    if (is_in_value && entity != NULL && entity->etype == XML_EXTERNAL_GENERAL_PARSED_ENTITY) {
         fault_set(declarations->feed->fault, FAULT_MALFORMED, declarations_place(declarations),
                   "malformed XML: external entity '%s' in the value of an attribute", plain(entity->name));
-    } else if (entity == NULL || !is_for_value(declarations, entity)) {
-        bytes_add_byte(text, '&');
-        bytes_add(text, name.data, name.length);
-        bytes_add_byte(text, ';');
-    } else if (count_reference(declarations, entity)) {
-        const struct level level = {entity, declarations->level, declarations->level->depth + 1};
-        declarations->level = &level;
-        entity_text_value((struct span){plain(entity->content), (size_t)entity->length}, &(struct entity_source){put_into_value, declarations}, text);
-        declarations->level = level.outer;
+        return false;
     }
+    if (!may_be_put(declarations, entity, is_in_value) || !count_reference(declarations, entity)) {
+        return false;
+    }
+    declarations->written += (uint64_t)entity->length;
+    if (declarations->open_count > most_levels(declarations)) {
+        refuse_levels(declarations);
+    } else if (declarations->written > part_of_memory(declarations)) {
+        refuse_part(declarations, "entities in entities have more than %s bytes");
+    }
+    open_twin(declarations, entity->_private);
+    *text = text_of(entity);
+    return true;
 }
 
 /* A twin of a general entity with the text. NULL: there is a fault. */
@@ -528,28 +590,30 @@ static struct twin *copy_of(struct declarations *declarations, const xmlEntity *
     twin->entity.content = (xmlChar *)strdup(bytes_text(text));
     twin->entity.URI = entity->URI == NULL ? NULL : (xmlChar *)strdup(plain(entity->URI));
     if (text->failed || twin->entity.content == NULL) {
-        out_of_memory(declarations);
+        declarations_out_of_memory(declarations);
     }
     return declarations->feed->fault->kind == FAULT_NONE ? twin : NULL;
 }
 
-/* The twins of an entity. NULL: out of memory. */
-static struct twin *twins_of(struct declarations *declarations, xmlEntityPtr entity) {
-    if (entity->_private == NULL) {
-        entity->_private = new_twin(declarations);
+/* The text of an entity for libxml2, with the texts of others in the place of references. */
+static void write_text(struct declarations *declarations, xmlEntityPtr entity, bool is_in_value, struct bytes *text) {
+    const struct entity_source source = {give_text, close_twin, declarations};
+    open_twin(declarations, entity->_private);
+    if (is_in_value) {
+        entity_text_value(text_of(entity), &source, text);
+    } else {
+        entity_text_content(text_of(entity), &source, text);
     }
-    return entity->_private;
+    close_twin(declarations);
 }
 
 /* The twin of an entity for content. It is made once. NULL: there is a fault. */
-static struct twin *written_of(struct declarations *declarations, xmlEntityPtr entity) {
+static struct twin *written_of(struct declarations *declarations, xmlEntityPtr entity, bool is_tall) {
     struct bytes text = NO_BYTES;
     struct twin *twins = twins_of(declarations, entity);
     if (twins != NULL && twins->written == NULL) {
-        const struct level level = {entity, NULL, 0};
-        declarations->level = &level;
-        entity_text_content((struct span){plain(entity->content), (size_t)entity->length}, &(struct entity_source){put_into_value, declarations}, &text);
-        declarations->level = NULL;
+        declarations->fills_content = is_tall;
+        write_text(declarations, entity, false, &text);
         twins->written = copy_of(declarations, entity, &text);
     }
     bytes_free(&text);
@@ -557,71 +621,50 @@ static struct twin *written_of(struct declarations *declarations, xmlEntityPtr e
 }
 
 /* The same with marks, for the value of an attribute of the document itself. */
-static struct twin *marked_of(struct declarations *declarations, xmlEntityPtr entity) {
+static struct twin *marked_of(struct declarations *declarations, xmlEntityPtr entity, bool is_tall) {
     struct bytes text = NO_BYTES;
+    struct bytes marked = NO_BYTES;
     struct twin *twins = twins_of(declarations, entity);
     if (twins != NULL && twins->marked == NULL) {
-        entity_text_marked((struct span){plain(entity->content), (size_t)entity->length}, &text);
-        twins->marked = copy_of(declarations, entity, &text);
+        if (is_tall) {
+            write_text(declarations, entity, true, &text);
+        }
+        entity_text_marked(is_tall ? (struct span){text.data, text.length} : text_of(entity), &marked);
+        marked.failed |= text.failed;
+        twins->marked = copy_of(declarations, entity, &marked);
     }
     declarations->has_marks = true;
     bytes_free(&text);
+    bytes_free(&marked);
     return twins == NULL ? NULL : twins->marked;
 }
 
-/* The entity with the text that libxml2 has to get. NULL: there is a fault. */
-static xmlEntityPtr rewritten(struct declarations *declarations, xmlEntityPtr entity, bool is_in_value) {
-    const struct span text = {plain(entity->content), (size_t)entity->length};
+/* The entity with the text that libxml2 has to get. If it is tall, the texts of others have to be in it. NULL: there is a fault. */
+static xmlEntityPtr rewritten(struct declarations *declarations, xmlEntityPtr entity, bool is_in_value, bool is_tall) {
+    const struct span text = text_of(entity);
     bool has_references = memchr(text.data, '<', text.length) != NULL && memchr(text.data, '&', text.length) != NULL;
     bool is_for_content = memchr(text.data, '\r', text.length) != NULL || (has_references && (declarations->has_blank_references || loads(declarations)));
     struct twin *twin = NULL;
-    if (is_in_value && has_blank_reference(text)) {
-        twin = marked_of(declarations, entity);
-    } else if (!is_in_value && is_for_content) {
-        twin = written_of(declarations, entity);
+    if (is_in_value && (is_tall || has_blank_reference(text))) {
+        twin = marked_of(declarations, entity, is_tall);
+    } else if (!is_in_value && (is_tall || is_for_content)) {
+        twin = written_of(declarations, entity, is_tall);
     } else {
         return entity;
     }
     return twin == NULL || !count_reference(declarations, &twin->entity) ? NULL : &twin->entity;
 }
 
-/* How many entities may be in one another from the text of this one on; more than MOST_LEVELS if `depth`, in which it is, and they are more. An entity that is
- * in itself is left to libxml2. It calls itself for the entities in one another, at most MOST_LEVELS times. */
-static size_t height_of(struct declarations *declarations, const xmlEntity *entity, size_t depth) {
-    struct span rest = {plain(entity->content), (size_t)entity->length};
-    struct span name;
-    size_t height = 0;
-    uintptr_t known = (uintptr_t)xmlHashLookup(declarations->heights, entity->name);
-    if (known > 0 || depth > MOST_LEVELS) {
-        return known > 0 ? known - 1 : MOST_LEVELS + 1;
+/* Whether more entities are in one another in an entity than libxml2 reads. If they are more than is allowed, there is a fault. */
+static bool is_tall(struct declarations *declarations, const xmlEntity *entity) {
+    if (declarations->referring <= LEVELS_OF_LIBXML2) {
+        return false;
     }
-    bool is_kept = xmlHashUpdateEntry(declarations->heights, entity->name, (void *)(uintptr_t)1, NULL) == 0;
-    while (height <= MOST_LEVELS && is_kept && entity_text_next(&rest, &name)) {
-        const xmlEntity *inner = entity_of(declarations, name);
-        bool is_text = inner != NULL && inner->etype == XML_INTERNAL_GENERAL_ENTITY && inner->content != NULL;
-        size_t found = is_text ? 1 + height_of(declarations, inner, depth + 1) : 0;
-        height = found > height ? found : height;
+    size_t height = entity_height(declarations, entity);
+    if (height > most_levels(declarations)) {
+        refuse_levels(declarations);
     }
-    is_kept = is_kept && xmlHashUpdateEntry(declarations->heights, entity->name, (void *)(uintptr_t)(height + 1), NULL) == 0;
-    if (!is_kept) {
-        out_of_memory(declarations);
-    }
-    return height;
-}
-
-/* Refuses a reference in the document itself to an entity in which too many are in one another. */
-static void check_height(struct declarations *declarations, const xmlEntity *entity) {
-    if (declarations->referring <= MOST_LEVELS || is_in_entity(declarations->feed)) {
-        return;
-    }
-    if (declarations->heights == NULL) {
-        declarations->heights = xmlHashCreate(0);
-    }
-    if (declarations->heights == NULL) {
-        out_of_memory(declarations);
-    } else if (height_of(declarations, entity, 0) > MOST_LEVELS) {
-        refuse(declarations, too_deep);
-    }
+    return height > LEVELS_OF_LIBXML2;
 }
 
 /* What is read for an entity that is not declared, if it may be declared nowhere: nothing, unless what is not read may declare it. */
@@ -663,7 +706,7 @@ xmlEntityPtr declarations_general(struct declarations *declarations, const xmlCh
     if (entity->etype != XML_INTERNAL_GENERAL_ENTITY || entity->content == NULL) {
         return entity;
     }
-    check_height(declarations, entity);
+    bool has_many = is_tall(declarations, entity);
     if (feed->fault->kind != FAULT_NONE) {
         return NULL;
     }
@@ -671,7 +714,7 @@ xmlEntityPtr declarations_general(struct declarations *declarations, const xmlCh
         declarations->plain.content = entity->content;
         return &declarations->plain;
     }
-    return rewritten(declarations, entity, is_in_value);
+    return rewritten(declarations, entity, is_in_value, has_many);
 }
 
 /* Whether a step of libxml2 may end with a reference. It may if a declaration or the beginning of the subset is before it. Behind another reference, and at the
@@ -714,12 +757,24 @@ static xmlEntityPtr in_turn(struct declarations *declarations, xmlEntityPtr enti
         twin->entity.URI = entity->URI == NULL ? NULL : (xmlChar *)strdup(plain(entity->URI));
         entity->_private = twin;
         if (twin->entity.content == NULL) {
-            out_of_memory(declarations);
+            declarations_out_of_memory(declarations);
         }
     }
     bool is_next = strchr(text, '<') == NULL ? declarations->is_second : !twin->is_next;
     twin->is_next = is_next && twin->entity.content != NULL;
     return twin->is_next ? &twin->entity : entity;
+}
+
+/* What libxml2 is to read for an internal parameter entity. */
+static xmlEntityPtr internal(struct declarations *declarations, xmlEntityPtr entity) {
+    if (!count_reference(declarations, entity)) {
+        return empty(declarations);
+    }
+    if (is_nested_parameter(declarations, entity)) {
+        nest_parameter(declarations, entity);
+        return empty(declarations);
+    }
+    return in_turn(declarations, entity);
 }
 
 /* Whether libxml2 asks for a parameter entity that it has just declared, and reads no reference. */
@@ -784,7 +839,7 @@ xmlEntityPtr declarations_parameter(struct declarations *declarations, const xml
         refuse(declarations, "a parameter entity inside a declaration: outside the profile");
     }
     if (entity != NULL && !is_external) {
-        return count_reference(declarations, entity) ? in_turn(declarations, entity) : empty(declarations);
+        return internal(declarations, entity);
     }
     note_unread(declarations, entity, name);
     return empty(declarations);

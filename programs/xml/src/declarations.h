@@ -25,16 +25,30 @@ struct twin {
     struct twin *written; /* of a general entity: the one with the text for content, .. */
     struct twin *marked;  /* .. and with the text for values of attributes; NULL: it is not made yet */
     struct twin *before;  /* the twin that was made before this one */
+    struct twin *outer;   /* the twins of the entity into whose text that of this one is being put */
+    bool is_open;         /* its text is being put somewhere, or entities into its text */
+    enum { BALANCE_UNKNOWN, BALANCED, UNBALANCED } balance; /* whether the text of a general entity may be put into content */
 };
 
-/* Entities whose texts are being put into one another. */
-struct level {
-    const xmlEntity *entity;
-    const struct level *outer;
-    size_t depth;
+/* Parameter entities whose texts were put in front of others (nested_parameters.h). */
+struct nested_parameters {
+    xmlChar *room; /* what is left of these texts is at its end */
+    size_t size;
+    struct nested_parameter *open; /* those that were not read to their ends */
+    size_t count;
+    size_t capacity;
+    xmlHashTablePtr names; /* of these */
 };
 
-enum { MOST_GROWTH = 100 /* how many times as long as the document may be what entities and defaults give, above some bytes */ };
+enum {
+    MOST_GROWTH = 100, /* how many times as long as the document may be what entities and defaults give, above some bytes */
+#ifndef LEVELS_OF_LIBXML2
+    LEVELS_OF_LIBXML2 = 500 /* entities in one another that libxml2 reads. It calls itself for each, and goes some 510 levels down */
+#endif
+};
+
+/* The words for feed_refuse. */
+extern const char too_many_entities[];
 
 struct declarations {
     struct feed *feed;
@@ -45,9 +59,9 @@ struct declarations {
     bool has_blank_references; /* an entity has a reference to a blank other than a space */
     bool has_marks;            /* libxml2 has marks for such references, which may be in attributes from now on */
     bool has_skipped;          /* a reference to an entity that is not declared was passed over */
-    size_t referring;          /* how many general entities refer to others, .. */
-    size_t parametric;         /* .. and how many parameter entities to parameter entities */
-    xmlHashTablePtr heights;   /* how many entities may be in one another from an entity on, and one more; 1: that is being found out */
+    size_t referring;          /* how many general entities refer to others */
+    xmlHashTablePtr heights;   /* how many entities are in one another in an entity, and one more; 1: that is being found out */
+    struct nested_parameters nested;
     uint64_t loaded;           /* the bytes of external entities that were read */
     uint64_t written;          /* the bytes of texts that were written for libxml2 */
     uint64_t expanded;         /* the bytes of entities that were put in the place of references, and the cost of that */
@@ -62,7 +76,9 @@ struct declarations {
     struct twin *twins;
     xmlEntity plain;        /* an entity of text alone, which libxml2 takes as it takes `&lt;` */
     xmlEntity skipped;      /* is read instead of an entity that is not declared */
-    const struct level *level; /* the text that is being put into a value */
+    struct twin *open;      /* the twins of the innermost entity into whose text others are being put */
+    size_t open_count;
+    bool fills_content;     /* texts are put in the place of references in content too, and not in values alone */
 };
 
 void declarations_open(struct declarations *declarations, struct feed *feed, const struct event_sink *sink);
@@ -92,6 +108,13 @@ xmlEntityPtr declarations_parameter(struct declarations *declarations, const xml
 
 /* Whether each entity that is referred to has to be declared in the document itself (XML 1.0, 4.1, WFC: Entity Declared). */
 bool declarations_are_all(const struct declarations *declarations);
+
+/* The entity of a name, or NULL. */
+xmlEntityPtr declarations_entity_of(struct declarations *declarations, struct span name);
+
+/* Room for a text, which stays until the document has been read. NULL: out of memory, and there is a fault. */
+xmlChar *declarations_room(struct declarations *declarations, size_t size);
+void declarations_out_of_memory(struct declarations *declarations);
 
 /* The place of the reference, the declaration or the tag at which libxml2 is. */
 struct place declarations_place(struct declarations *declarations);

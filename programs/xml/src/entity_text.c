@@ -1,5 +1,7 @@
 #include "entity_text.h"
 
+#include <stdlib.h>
+
 /* The blanks, and the bytes that are their marks. libxml2 does not look whether characters of an entity are allowed in a value. */
 static const char blanks[] = "\t\n\r";
 static const char marks[] = "\x01\x02\x03";
@@ -8,9 +10,22 @@ const char instruction_mark[] = "\xF4\x8F\xBF\xBF"; /* U+10FFFF, which is no cha
 
 enum { MOST_CODE = 0x110000 };
 
-/* Where a text is read, and where it is written. */
-struct rewriting {
+/* What a part of a text is in. */
+enum where { IN_CONTENT, IN_TAG, IN_VALUE /* of an attribute, whose quotes are not in the text */ };
+
+/* A text that is read. */
+struct level {
     struct span rest;
+    enum where where;
+    char quote; /* the quote of the value in a tag; 0: none */
+};
+
+/* Where texts are read, and where they are written. */
+struct rewriting {
+    struct level now;
+    struct level *outer; /* the texts in which it is, the innermost last */
+    size_t depth;
+    size_t capacity;
     const struct entity_source *source;
     struct bytes *to;
 };
@@ -83,17 +98,41 @@ bool has_blank_reference(struct span text) {
     return is_found;
 }
 
-bool entity_text_next(struct span *rest, struct span *name) {
-    while (rest->length > 0) {
-        struct reference reference = reference_at(*rest);
-        size_t length = reference.length == 0 ? 1 : reference.length;
-        *name = (struct span){rest->data + 1, length - 2};
-        *rest = (struct span){rest->data + length, rest->length - length};
-        if (reference.length > 0 && !reference.is_code) {
-            return true;
-        }
+/* The markup without references that begins with this and ends with that, and what its carriage returns become in content. */
+struct section {
+    const char *begin, *end, *carriage_return;
+};
+
+/* The section at the start of a text, or NULL. */
+static const struct section *section_at(struct span text) {
+    static const struct section sections[] = {{"<!--", "-->", " "}, {"<?", "?>", "\r"}, {"<![CDATA[", "]]>", "]]>&#13;<![CDATA["}};
+    const struct section *found = NULL;
+    for (size_t at = 0; at < sizeof sections / sizeof *sections && found == NULL; at++) {
+        found = begins(text, sections[at].begin) ? &sections[at] : NULL;
     }
-    return false;
+    return found;
+}
+
+/* The length of the section at the start of a text. */
+static size_t section_length(struct span text, const struct section *section) {
+    size_t at = strlen(section->begin);
+    while (at < text.length && !begins((struct span){text.data + at, text.length - at}, section->end)) {
+        at++;
+    }
+    return at < text.length ? at + strlen(section->end) : text.length;
+}
+
+bool entity_text_next(struct span *rest, struct span *name) {
+    bool is_found = false;
+    while (rest->length > 0 && !is_found) {
+        struct reference reference = reference_at(*rest);
+        const struct section *section = rest->data[0] == '<' ? section_at(*rest) : NULL;
+        size_t length = reference.length > 0 ? reference.length : section != NULL ? section_length(*rest, section) : 1;
+        is_found = reference.length > 0 && !reference.is_code;
+        *name = (struct span){rest->data + 1, is_found ? length - 2 : 0};
+        *rest = (struct span){rest->data + length, rest->length - length};
+    }
+    return is_found;
 }
 
 void entity_text_marked(struct span text, struct bytes *to) {
@@ -121,112 +160,148 @@ void add_unmarked(struct span value, struct bytes *to) {
 }
 
 static void skip(struct rewriting *rewriting, size_t length) {
-    rewriting->rest = (struct span){rewriting->rest.data + length, rewriting->rest.length - length};
+    struct span *rest = &rewriting->now.rest;
+    *rest = (struct span){rest->data + length, rest->length - length};
 }
 
 static void copy(struct rewriting *rewriting, size_t length) {
-    bytes_add(rewriting->to, rewriting->rest.data, length);
+    bytes_add(rewriting->to, rewriting->now.rest.data, length);
     skip(rewriting, length);
 }
 
-/* Writes a reference in a value. What is none is no reference in the text around it either. */
+/* Writes this in the place of the first byte. */
+static void replace(struct rewriting *rewriting, const char *text) {
+    bytes_add_text(rewriting->to, text);
+    skip(rewriting, 1);
+}
+
+/* Writes a comment where two texts in content meet, if brackets before it and behind it would be taken for the end of a section. */
+static void part(struct rewriting *rewriting) {
+    const struct bytes *to = rewriting->to;
+    if (rewriting->now.where == IN_CONTENT && to->length > 0 && to->data[to->length - 1] == ']') {
+        bytes_add_text(rewriting->to, "<!---->");
+    }
+}
+
+/* Leaves the text that is read for one in it. */
+static void enter(struct rewriting *rewriting, struct level inner) {
+    if (rewriting->depth == rewriting->capacity) {
+        size_t capacity = rewriting->capacity == 0 ? 8 : 2 * rewriting->capacity;
+        struct level *outer = realloc(rewriting->outer, capacity * sizeof *outer);
+        if (outer == NULL) {
+            rewriting->to->failed = true;
+            return;
+        }
+        rewriting->outer = outer;
+        rewriting->capacity = capacity;
+    }
+    rewriting->outer[rewriting->depth++] = rewriting->now;
+    part(rewriting);
+    rewriting->now = inner;
+}
+
+/* Goes on with the text in which the one is that was read. */
+static void leave(struct rewriting *rewriting) {
+    part(rewriting);
+    rewriting->now = rewriting->outer[--rewriting->depth];
+    rewriting->source->close(rewriting->source->context);
+}
+
+/* Writes a reference. In a value what is none is no reference in the text around it either. */
 static void rewrite_reference(struct rewriting *rewriting) {
-    struct reference reference = reference_at(rewriting->rest);
+    struct span rest = rewriting->now.rest;
+    struct reference reference = reference_at(rest);
+    bool is_in_value = rewriting->now.where != IN_CONTENT;
+    struct span text;
     if (reference.length == 0) {
-        bytes_add_text(rewriting->to, "&;");
-        skip(rewriting, 1);
-    } else if (reference.is_code) {
+        replace(rewriting, is_in_value ? "&;" : "&");
+    } else if (reference.is_code ||
+               !rewriting->source->open(rewriting->source->context, (struct span){rest.data + 1, reference.length - 2}, is_in_value, &text)) {
         copy(rewriting, reference.length);
     } else {
-        struct span name = {rewriting->rest.data + 1, reference.length - 2};
         skip(rewriting, reference.length);
-        rewriting->source->add(rewriting->source->context, name, rewriting->to);
+        enter(rewriting, (struct level){text, is_in_value ? IN_VALUE : IN_CONTENT, '\0'});
     }
 }
 
 /* Writes a byte of a value, or a reference. */
 static void rewrite_in_value(struct rewriting *rewriting) {
-    if (rewriting->rest.data[0] == '&') {
+    char byte = rewriting->now.rest.data[0];
+    if (byte == '&') {
         rewrite_reference(rewriting);
-    } else if (rewriting->rest.data[0] == '\r') {
-        bytes_add_byte(rewriting->to, ' ');
-        skip(rewriting, 1);
+    } else if (byte == '\r') {
+        replace(rewriting, " ");
+    } else if (rewriting->now.where == IN_VALUE && (byte == '"' || byte == '\'')) {
+        replace(rewriting, byte == '"' ? "&#34;" : "&#39;");
     } else {
         copy(rewriting, 1);
     }
 }
 
-void entity_text_value(struct span text, const struct entity_source *source, struct bytes *to) {
-    struct rewriting rewriting = {text, source, to};
-    while (rewriting.rest.length > 0) {
-        char byte = rewriting.rest.data[0];
-        if (byte == '"' || byte == '\'') {
-            bytes_add_text(to, byte == '"' ? "&#34;" : "&#39;");
-            skip(&rewriting, 1);
-        } else {
-            rewrite_in_value(&rewriting);
-        }
+/* Writes what is next in a tag. */
+static void rewrite_in_tag(struct rewriting *rewriting) {
+    char byte = rewriting->now.rest.data[0];
+    char quote = rewriting->now.quote;
+    if (quote != '\0' && byte != quote) {
+        rewrite_in_value(rewriting);
+    } else {
+        bool is_quote = byte == '"' || byte == '\'';
+        rewriting->now.quote = quote == '\0' && is_quote ? byte : '\0';
+        rewriting->now.where = quote == '\0' && byte == '>' ? IN_CONTENT : IN_TAG;
+        bytes_add_byte(rewriting->to, byte == '\r' ? ' ' : byte);
+        skip(rewriting, 1);
     }
 }
 
-/* Writes a tag up to its end. */
-static void rewrite_tag(struct rewriting *rewriting) {
-    char quote = '\0';
-    bool has_ended = false;
-    while (rewriting->rest.length > 0 && !has_ended) {
-        char byte = rewriting->rest.data[0];
-        has_ended = quote == '\0' && byte == '>';
-        if (quote != '\0' && byte != quote) {
-            rewrite_in_value(rewriting);
-        } else {
-            bool is_quote = byte == '"' || byte == '\'';
-            quote = quote == '\0' && is_quote ? byte : '\0';
-            bytes_add_byte(rewriting->to, byte == '\r' ? ' ' : byte);
-            skip(rewriting, 1);
-        }
-    }
-}
-
-/* Writes what ends with these bytes, with this in the place of each carriage return. */
-static void rewrite_section(struct rewriting *rewriting, size_t begin, const char *end, const char *carriage_return) {
-    copy(rewriting, begin);
-    while (rewriting->rest.length > 0 && !begins(rewriting->rest, end)) {
-        if (rewriting->rest.data[0] == '\r') {
-            bytes_add_text(rewriting->to, carriage_return);
-            skip(rewriting, 1);
+/* Writes so many bytes, with this in the place of each carriage return. */
+static void rewrite_section(struct rewriting *rewriting, size_t length, const char *carriage_return) {
+    for (size_t at = 0; at < length; at++) {
+        if (rewriting->now.rest.data[0] == '\r') {
+            replace(rewriting, carriage_return);
         } else {
             copy(rewriting, 1);
         }
     }
-    copy(rewriting, rewriting->rest.length > 0 ? strlen(end) : 0);
 }
 
-/* Writes the markup at the start. */
-static void rewrite_markup(struct rewriting *rewriting) {
-    static const struct {
-        const char *begin, *end, *carriage_return;
-    } sections[] = {{"<!--", "-->", " "}, {"<?", "?>", "\r"}, {"<![CDATA[", "]]>", "]]>&#13;<![CDATA["}};
-    for (size_t at = 0; at < sizeof sections / sizeof *sections; at++) {
-        if (begins(rewriting->rest, sections[at].begin)) {
-            rewrite_section(rewriting, strlen(sections[at].begin), sections[at].end, sections[at].carriage_return);
-            return;
+/* Writes what is next in content. */
+static void rewrite_in_content(struct rewriting *rewriting) {
+    char byte = rewriting->now.rest.data[0];
+    const struct section *section = byte == '<' ? section_at(rewriting->now.rest) : NULL;
+    if (section != NULL) {
+        rewrite_section(rewriting, section_length(rewriting->now.rest, section), section->carriage_return);
+    } else if (byte == '&') {
+        rewrite_reference(rewriting);
+    } else if (byte == '\r') {
+        replace(rewriting, "&#13;");
+    } else {
+        rewriting->now.where = byte == '<' ? IN_TAG : IN_CONTENT;
+        copy(rewriting, 1);
+    }
+}
+
+/* Writes a text with those in it, which may be in one another to any depth. */
+static void rewrite(struct rewriting *rewriting) {
+    while ((rewriting->now.rest.length > 0 || rewriting->depth > 0) && !rewriting->to->failed) {
+        if (rewriting->now.rest.length == 0) {
+            leave(rewriting);
+        } else if (rewriting->now.where == IN_CONTENT) {
+            rewrite_in_content(rewriting);
+        } else if (rewriting->now.where == IN_TAG) {
+            rewrite_in_tag(rewriting);
+        } else {
+            rewrite_in_value(rewriting);
         }
     }
-    rewrite_tag(rewriting);
+    free(rewriting->outer);
+}
+
+void entity_text_value(struct span text, const struct entity_source *source, struct bytes *to) {
+    rewrite(&(struct rewriting){.now = {text, IN_VALUE, '\0'}, .source = source, .to = to});
 }
 
 void entity_text_content(struct span text, const struct entity_source *source, struct bytes *to) {
-    struct rewriting rewriting = {text, source, to};
-    while (rewriting.rest.length > 0) {
-        if (rewriting.rest.data[0] == '<') {
-            rewrite_markup(&rewriting);
-        } else if (rewriting.rest.data[0] == '\r') {
-            bytes_add_text(to, "&#13;");
-            skip(&rewriting, 1);
-        } else {
-            copy(&rewriting, 1);
-        }
-    }
+    rewrite(&(struct rewriting){.now = {text, IN_CONTENT, '\0'}, .source = source, .to = to});
 }
 
 static bool is_blank(char byte) {
@@ -234,40 +309,65 @@ static bool is_blank(char byte) {
 }
 
 /* Writes the instruction at the start. */
-static void rewrite_instruction(struct rewriting *rewriting) {
-    struct span rest = rewriting->rest;
+static void rewrite_instruction(struct rewriting *rewriting, size_t length) {
+    struct span rest = rewriting->now.rest;
     size_t at = strlen("<?");
-    while (at < rest.length && !is_blank(rest.data[at]) && rest.data[at] != '?') {
+    while (at < length && !is_blank(rest.data[at]) && rest.data[at] != '?') {
         at++;
     }
-    while (at < rest.length && is_blank(rest.data[at])) {
+    while (at < length && is_blank(rest.data[at])) {
         at++;
     }
     copy(rewriting, at);
-    if (rewriting->rest.length > 0 && rewriting->rest.data[0] == '%') {
+    if (at < length && rest.data[at] == '%') {
         bytes_add_text(rewriting->to, instruction_mark);
     }
-    rewrite_section(rewriting, 0, "?>", "\r");
+    copy(rewriting, length - at);
 }
 
-/* Writes a literal up to its end. */
-static void rewrite_literal(struct rewriting *rewriting) {
-    const char *end = memchr(rewriting->rest.data + 1, rewriting->rest.data[0], rewriting->rest.length - 1);
-    copy(rewriting, end == NULL ? rewriting->rest.length : (size_t)(end + 1 - rewriting->rest.data));
+/* The length of the literal at the start; without its end it is the whole text. */
+static size_t literal_length(struct span text) {
+    const char *end = memchr(text.data + 1, text.data[0], text.length - 1);
+    return end == NULL ? text.length : (size_t)(end + 1 - text.data);
+}
+
+/* The length of what is at the start of a text of declarations: a section, a literal, or a byte. */
+static size_t declared_length(struct span text) {
+    const struct section *section = text.data[0] == '<' ? section_at(text) : NULL;
+    bool is_literal = text.data[0] == '"' || text.data[0] == '\'';
+    return section != NULL ? section_length(text, section) : is_literal ? literal_length(text) : 1;
 }
 
 void entity_text_declarations(struct span text, struct bytes *to) {
-    struct rewriting rewriting = {text, NULL, to};
-    while (rewriting.rest.length > 0) {
-        char byte = rewriting.rest.data[0];
-        if (begins(rewriting.rest, "<!--")) {
-            rewrite_section(&rewriting, strlen("<!--"), "-->", "\r");
-        } else if (begins(rewriting.rest, "<?")) {
-            rewrite_instruction(&rewriting);
-        } else if (byte == '"' || byte == '\'') {
-            rewrite_literal(&rewriting);
+    struct rewriting rewriting = {.now = {text, IN_CONTENT, '\0'}, .to = to};
+    while (rewriting.now.rest.length > 0) {
+        size_t length = declared_length(rewriting.now.rest);
+        if (begins(rewriting.now.rest, "<?")) {
+            rewrite_instruction(&rewriting, length);
         } else {
-            copy(&rewriting, 1);
+            copy(&rewriting, length);
         }
     }
+}
+
+/* Whether the first bytes of a text, a section or a literal, have their end. */
+static bool has_end(struct span text, size_t length) {
+    const struct section *section = section_at(text);
+    size_t end = section == NULL ? 1 : strlen(section->end);
+    const char *last = text.data + length - end;
+    return section == NULL ? length > 1 && *last == text.data[0] : length >= strlen(section->begin) + end && memcmp(last, section->end, end) == 0;
+}
+
+bool entity_text_is_whole(struct span text) {
+    bool is_outside = true;
+    bool is_ended = true;
+    while (text.length > 0 && is_ended) {
+        char byte = text.data[0];
+        bool is_literal = byte == '"' || byte == '\'';
+        size_t length = is_outside && is_literal ? 1 : declared_length(text);
+        is_ended = length == 1 ? is_outside || !is_literal : has_end(text, length);
+        is_outside = length > 1 ? is_outside : is_outside ? byte != '<' : byte == '>';
+        text = (struct span){text.data + length, text.length - length};
+    }
+    return is_outside && is_ended;
 }

@@ -5,26 +5,31 @@
 
 #include "bytes.h"
 
-/* Adds what a reference to an entity gives in the value of an attribute. */
+/* What is put in the place of references to entities. */
 struct entity_source {
-    void (*add)(void *context, struct span name, struct bytes *text);
+    /* Gives the text to put there. False: the reference stays. The reference is in the value of an attribute, or else in content. */
+    bool (*open)(void *context, struct span name, bool is_in_value, struct span *text);
+    void (*close)(void *context); /* comes once that text has been put there. Entities in it are opened and closed before */
     void *context;
 };
 
 /* Whether a text has a reference to a blank other than a space, as `&#9;`. */
 bool has_blank_reference(struct span text);
 
-/* Takes the text up to the next reference to an entity off the front. False: there is none. */
+/* Takes the text up to the next reference to an entity off the front. Comments, instructions and CDATA sections have none. False: there is none. */
 bool entity_text_next(struct span *rest, struct span *name);
 
 /* Adds the text of a parameter entity, with this mark before each percent sign that begins the data of an instruction: libxml2 takes it for a reference. */
 extern const char instruction_mark[];
 void entity_text_declarations(struct span text, struct bytes *to);
 
-/* Adds the text of an entity for content: carriage returns as references, and in the tags no references to entities. */
+/* Whether a text of declarations has no begun declaration, comment or instruction at its end. */
+bool entity_text_is_whole(struct span text);
+
+/* Adds the text of an entity for content: carriage returns as references, and texts in the place of references to entities. */
 void entity_text_content(struct span text, const struct entity_source *source, struct bytes *to);
 
-/* Adds the text of an entity for the value of an attribute in such a tag. */
+/* Adds the text of an entity for the value of an attribute in the same way. */
 void entity_text_value(struct span text, const struct entity_source *source, struct bytes *to);
 
 /* Adds the text of an entity for a value of the document itself: libxml2 gets a mark for each reference to a blank. No document has the marks. */

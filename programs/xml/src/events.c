@@ -43,7 +43,6 @@ struct reader {
     bool is_empty;       /* the end of the last start tag is in it */
     bool has_marked_uri; /* a namespace had marks */
     bool has_control;    /* the receiver was asked whether it takes control characters */
-    size_t most_depth;
     uint64_t allowed; /* how many times what a tag usually may cost is allowed: it grows with the square of its attributes */
     size_t unasked;    /* the bytes of texts since the receiver was asked how much it keeps */
     uint64_t searched; /* how many open namespaces were looked at for names */
@@ -552,8 +551,8 @@ static void check_names(struct reader *reader, const struct start_event *start) 
 /* Counts an element that is open. */
 static void count_open(struct reader *reader) {
     reader->start.depth++;
-    if (reader->start.depth > reader->most_depth) {
-        feed_refuse(&reader->feed, place_of(reader->start.position), "more than %s elements are open", reader->most_depth, "--max-depth");
+    if (reader->start.depth > reader->feed.most_depth) {
+        feed_refuse(&reader->feed, place_of(reader->start.position), "more than %s elements are open", reader->feed.most_depth, "--max-depth");
     }
 }
 
@@ -638,7 +637,7 @@ static OUT_OF_LINE void take_any_start(void *context, const xmlChar *local, cons
 /* Whether a start tag is usual: in the document, of a known name, with nothing that is declared or that is there by default. */
 static inline bool is_usual_start(const struct reader *reader, bool is_named, int namespace_count, int default_count, int attribute_count) {
     bool is_plain = is_named && namespace_count == 0 && default_count == 0 && !reader->is_unusual;
-    return is_plain && is_in_content(reader) && reader->start.depth < reader->most_depth &&
+    return is_plain && is_in_content(reader) && reader->start.depth < reader->feed.most_depth &&
            reader->searched + searched_for(reader, attribute_count) <= SEARCHED;
 }
 
@@ -971,6 +970,14 @@ static bool declares_parameter(const xmlParserCtxt *parser, const char *identifi
     return memcmp(at - (sizeof begin - 1), begin, sizeof begin - 1) != 0 || at[blanks_of((const char *)at, (size_t)(input->cur - at))] == '%';
 }
 
+/* Takes what is left of a document type from libxml2. Without memory it would look at the same blank or reference forever. */
+static void stop_subset(struct reader *reader) {
+    xmlParserCtxtPtr parser = reader->feed.parser;
+    if (parser != NULL && parser->inSubset != 0) {
+        xmlStopParser(parser);
+    }
+}
+
 static void take_error(void *context, parser_error *error) {
     struct reader *reader = current;
     (void)context;
@@ -979,6 +986,7 @@ static void take_error(void *context, parser_error *error) {
     }
     if (error->code == XML_ERR_NO_MEMORY || reader->memory.has_failed) {
         out_of_memory(reader);
+        stop_subset(reader);
     } else if (reader->feed.decoding.is_1_1 && take_1_1(reader, error)) {
         return;
     } else if (error->code == XML_ERR_UNDECLARED_ENTITY || error->code == XML_WAR_UNDECLARED_ENTITY) {
@@ -1109,14 +1117,16 @@ static void open_reader(struct reader *reader, const struct byte_source *source,
     memset(reader, 0, offsetof(struct reader, names.slots));
     reader->sink = *sink;
     reader->fault = fault;
-    reader->most_depth = sink->depth == 0 ? USUAL_DEPTH : sink->depth;
-#if LIBXML_VERSION < 20911
-    reader->most_depth = reader->most_depth < USUAL_DEPTH ? reader->most_depth : USUAL_DEPTH; /* these call themselves for an element in an element */
-#endif
     feed_open(&reader->feed, source, fault);
     reader->feed.keep = keep;
     reader->feed.before_read = before_read;
     reader->feed.marked = use_marks;
+    reader->feed.most_depth = sink->depth == 0 ? USUAL_DEPTH : sink->depth;
+#if LIBXML_VERSION < 20911
+    if (reader->feed.most_depth > USUAL_DEPTH) {
+        reader->feed.most_depth = USUAL_DEPTH; /* these call themselves for an element in an element */
+    }
+#endif
     reader->feed.most = sink->memory == 0 ? USUAL_MEMORY : sink->memory;
     reader->feed.most_attributes = sink->attributes == 0 ? USUAL_ATTRIBUTES : sink->attributes;
     reader->allowed = 1;

@@ -51,6 +51,7 @@ struct feed {
     struct place long_place;
     char long_mark[MARK_BYTES]; /* .. but its place and its first bytes */
     size_t most;        /* the bytes that may be held of the document */
+    size_t most_depth;  /* how many elements may be open, and entities in one another */
     size_t most_attributes; /* that a tag may have, with declarations; the same for the choices of a declaration: libxml2 compares them in pairs */
     size_t kept;        /* the bytes that the receiver keeps, when it was asked last */
     void (*keep)(void *context);        /* is called before text that was read is forgotten */

@@ -37,7 +37,8 @@ void *realloc(void *old, size_t size) {
     return is_refused() ? NULL : __libc_realloc(old, size);
 }
 
-static const char document[] = "<!DOCTYPE a [<!ENTITY e 'f'> <!ATTLIST a y CDATA '1'>]><a x='1'>&e;<b/></a>";
+static const char document[] = "<!DOCTYPE a [<!ENTITY e 'f'><!ENTITY g '&e;<b/>'><!ENTITY % p ''><!ENTITY % q '&#37;p;'> %q; <!ATTLIST a y CDATA '1'>]>"
+                               "<a x='1'>&g;</a>";
 static const char wanted[] = "(a\nAx 1\nAy 1\n-f\n(b\n)b\n)a\n";
 
 /* What a conversion gave, and how much of the document it has read. */

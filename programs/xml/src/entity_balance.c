@@ -1,0 +1,51 @@
+#include "entity_balance.h"
+
+#include "entity_text.h"
+
+#include <libxml/parser.h>
+#include <libxml/parserInternals.h>
+#include <limits.h>
+
+static const char begin[] = "<text>";
+static const char end[] = "</text>";
+
+/* Gives a comment in the place of each reference in content, and nothing in values. */
+static bool open_nothing(void *context, struct span name, bool is_in_value, struct span *text) {
+    static const char comment[] = "<!---->";
+    (void)context;
+    (void)name;
+    *text = (struct span){comment, is_in_value ? 0 : sizeof comment - 1};
+    return true;
+}
+
+static void close_nothing(void *context) {
+    (void)context;
+}
+
+/* Whether it is a well-formed document. */
+static bool is_document(const char *text, size_t length) {
+    xmlParserCtxtPtr parser = length > INT_MAX ? NULL : xmlCreateMemoryParserCtxt(text, (int)length);
+    if (parser == NULL) {
+        return false;
+    }
+    memset(parser->sax, 0, sizeof *parser->sax);
+    parser->sax->initialized = XML_SAX2_MAGIC;
+    xmlCtxtUseOptions(parser, XML_PARSE_HUGE | XML_PARSE_NONET | XML_PARSE_IGNORE_ENC);
+    xmlParseDocument(parser);
+    bool is_well_formed = parser->wellFormed;
+    xmlDocPtr document = parser->myDoc;
+    xmlFreeParserCtxt(parser);
+    xmlFreeDoc(document);
+    return is_well_formed;
+}
+
+/* A text is balanced exactly if it can be that of an element: a tag in it that ended the element would have this end tag behind the root. */
+bool entity_is_balanced(struct span text) {
+    struct bytes written = NO_BYTES;
+    bytes_add_text(&written, begin);
+    entity_text_content(text, &(struct entity_source){open_nothing, close_nothing, NULL}, &written);
+    bytes_add_text(&written, end);
+    bool is_balanced = !written.failed && is_document(written.data, written.length);
+    bytes_free(&written);
+    return is_balanced;
+}
