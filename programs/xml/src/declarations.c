@@ -770,6 +770,9 @@ static xmlEntityPtr internal(struct declarations *declarations, xmlEntityPtr ent
     if (!count_reference(declarations, entity)) {
         return empty(declarations);
     }
+    if (declarations->feed->parser->depth > 0) {
+        return entity; /* the value of an entity has the text as it is */
+    }
     if (is_nested_parameter(declarations, entity)) {
         nest_parameter(declarations, entity);
         return empty(declarations);

@@ -419,6 +419,12 @@ class LoadedDtd(Converted):
                              capture_output=True, timeout=60, check=False)
         return run.stdout.decode(), run.stderr.decode(), run.returncode
 
+    def test_blanks_in_values(self):
+        """A parameter entity of blanks gives them to the value of an entity, also if it is read between declarations."""
+        for reads in ("", "%b;", "%b;%b; %b;"):
+            self.write("b.dtd", f"<!ENTITY % b ' '>{reads}<!ENTITY e 'x%b;y'>{reads}")
+            self.assertEqual(self.loaded('<!DOCTYPE a SYSTEM "b.dtd"><a>&e;</a>'), ("(a\n-x y\n)a\n", "", 0), reads)
+
     def test_what_is_read(self):
         text = '<!DOCTYPE a SYSTEM "d.dtd">\n<a t="&ext;">&ext; &chapter;&near;&chapter;</a>'
         chapter = "(p\n-caf\u00e9\\nfrom dtd\n)p\n"
