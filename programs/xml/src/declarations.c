@@ -417,6 +417,17 @@ static struct twin *load(struct declarations *declarations, const xmlEntity *ent
     return is_read && declarations->feed->fault->kind == FAULT_NONE ? twin : NULL;
 }
 
+void declarations_flatten(struct declarations *declarations, char *text, size_t length) {
+    if (!make_declarations_shallow(text, length, declarations->feed->models.most)) {
+        declarations_out_of_memory(declarations);
+    }
+}
+
+/* Makes the models of a copy shallow. */
+static void flatten(struct declarations *declarations, struct twin *twin) {
+    declarations_flatten(declarations, (char *)twin->entity.content, strlen((const char *)twin->entity.content));
+}
+
 /* The external entity as an internal one. It is read once. */
 static xmlEntityPtr loaded(struct declarations *declarations, xmlEntityPtr entity, xmlEntityType type) {
     struct twin *twin = entity->_private;
@@ -446,7 +457,11 @@ xmlParserInputPtr declarations_input(struct declarations *declarations, const xm
     xmlEntity external = {.ExternalID = public, .SystemID = system, .URI = uri};
     struct twin *twin = load(declarations, &external, XML_INTERNAL_PARAMETER_ENTITY);
     xmlFree(uri);
-    return twin == NULL ? NULL : xmlNewEntityInputStream(parser, &twin->entity);
+    if (twin == NULL) {
+        return NULL;
+    }
+    flatten(declarations, twin);
+    return xmlNewEntityInputStream(parser, &twin->entity);
 }
 
 /* Whether an entity gives text alone, and the reference is in the content of the document itself. Such an entity needs no parser of its own. */
@@ -738,6 +753,38 @@ static xmlEntityPtr empty(struct declarations *declarations) {
     return &declarations->nothing;
 }
 
+/* A copy of a parameter entity with shallow models. NULL, or without text: out of memory. */
+static struct twin *shallow_of(struct declarations *declarations, const xmlEntity *entity) {
+    struct twin *twin = new_twin(declarations);
+    if (twin == NULL) {
+        return NULL;
+    }
+    twin->entity = *entity;
+    twin->entity.orig = NULL;
+    twin->entity._private = NULL;
+    twin->entity.content = (xmlChar *)strdup(plain(entity->content));
+    twin->entity.URI = entity->URI == NULL ? NULL : (xmlChar *)strdup(plain(entity->URI));
+    if (twin->entity.content == NULL) {
+        declarations_out_of_memory(declarations);
+    } else {
+        flatten(declarations, twin);
+    }
+    return twin;
+}
+
+/* The copy of a parameter entity. It is made once, and a second one if it is not as the entity. */
+static struct twin *second_of(struct declarations *declarations, xmlEntityPtr entity) {
+    if (entity->_private == NULL) {
+        struct twin *twin = shallow_of(declarations, entity);
+        bool is_changed = twin != NULL && twin->entity.content != NULL && strcmp(plain(twin->entity.content), plain(entity->content)) != 0;
+        entity->_private = twin;
+        if (is_changed) {
+            twin->shallow = shallow_of(declarations, entity);
+        }
+    }
+    return entity->_private;
+}
+
 /* The entity or its twin, in turn. Between declarations blanks alone are nothing. A step ends at the beginning of a text, or at a declaration in it, which is
  * read once for each reference. */
 static xmlEntityPtr in_turn(struct declarations *declarations, xmlEntityPtr entity) {
@@ -745,24 +792,14 @@ static xmlEntityPtr in_turn(struct declarations *declarations, xmlEntityPtr enti
     if (text[strspn(text, " \t\n\r")] == '\0') {
         return empty(declarations);
     }
-    struct twin *twin = entity->_private;
+    struct twin *twin = second_of(declarations, entity);
     if (twin == NULL) {
-        twin = new_twin(declarations);
-        if (twin == NULL) {
-            return entity;
-        }
-        twin->entity = *entity;
-        twin->entity.orig = NULL;
-        twin->entity.content = (xmlChar *)strdup(text);
-        twin->entity.URI = entity->URI == NULL ? NULL : (xmlChar *)strdup(plain(entity->URI));
-        entity->_private = twin;
-        if (twin->entity.content == NULL) {
-            declarations_out_of_memory(declarations);
-        }
+        return entity;
     }
     bool is_next = strchr(text, '<') == NULL ? declarations->is_second : !twin->is_next;
+    xmlEntityPtr first = twin->shallow == NULL ? entity : &twin->shallow->entity;
     twin->is_next = is_next && twin->entity.content != NULL;
-    return twin->is_next ? &twin->entity : entity;
+    return twin->is_next ? &twin->entity : first;
 }
 
 /* What libxml2 is to read for an internal parameter entity. */

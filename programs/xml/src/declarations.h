@@ -24,6 +24,7 @@ struct twin {
     bool is_next;
     struct twin *written; /* of a general entity: the one with the text for content, .. */
     struct twin *marked;  /* .. and with the text for values of attributes; NULL: it is not made yet */
+    struct twin *shallow; /* of a parameter entity whose models libxml2 does not get as they are: another copy, which it gets in the entity's place */
     struct twin *before;  /* the twin that was made before this one */
     struct twin *outer;   /* the twins of the entity into whose text that of this one is being put */
     bool is_open;         /* its text is being put somewhere, or entities into its text */
@@ -111,6 +112,9 @@ bool declarations_are_all(const struct declarations *declarations);
 
 /* The entity of a name, or NULL. */
 xmlEntityPtr declarations_entity_of(struct declarations *declarations, struct span name);
+
+/* Makes the content models in a text of declarations shallow (models.h). */
+void declarations_flatten(struct declarations *declarations, char *text, size_t length);
 
 /* Room for a text, which stays until the document has been read. NULL: out of memory, and there is a fault. */
 xmlChar *declarations_room(struct declarations *declarations, size_t size);

@@ -941,6 +941,11 @@ static void take_prefix(struct reader *reader, const parser_error *error) {
     }
 }
 
+/* Whether libxml2 is at a bracket of a declaration that is over the limit. */
+static bool is_too_deep(const struct reader *reader, const parser_error *error) {
+    return error->code == XML_ERR_ELEMCONTENT_NOT_STARTED && *reader->feed.parser->input->cur == DEEP_BRACKET;
+}
+
 /* Takes an error that is none in XML 1.1. False: it is one. */
 static bool take_1_1(struct reader *reader, const parser_error *error) {
     if (takes_prefix_back(error)) {
@@ -1002,6 +1007,9 @@ static void take_error(void *context, parser_error *error) {
         fault_set(reader->fault, FAULT_OUTSIDE, error_place(reader, error), "a percent sign in an instruction of a parameter entity: outside the profile");
     } else if (error->code == XML_ERR_INVALID_URI && declares_parameter(reader->feed.parser, error->str1)) {
         reader->declarations.has_dropped = true;
+    } else if (is_too_deep(reader, error)) {
+        feed_refuse(&reader->feed, error_place(reader, error), "a declaration has more than %s brackets in one another", reader->feed.models.most,
+                    "--max-depth");
     } else if (is_limit(error)) {
         fault_set(reader->fault, FAULT_OUTSIDE, error_place(reader, error), "%s", limit_words(error));
     } else if (is_malformed(error)) {
@@ -1127,6 +1135,7 @@ static void open_reader(struct reader *reader, const struct byte_source *source,
         reader->feed.most_depth = USUAL_DEPTH; /* these call themselves for an element in an element */
     }
 #endif
+    reader->feed.models.most = reader->feed.most_depth > LEVELS_OF_LIBXML2 ? reader->feed.most_depth : LEVELS_OF_LIBXML2;
     reader->feed.most = sink->memory == 0 ? USUAL_MEMORY : sink->memory;
     reader->feed.most_attributes = sink->attributes == 0 ? USUAL_ATTRIBUTES : sink->attributes;
     reader->allowed = 1;

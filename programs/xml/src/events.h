@@ -69,7 +69,7 @@ struct event_sink {
     void *context;
     bool checks_names; /* a tag that breaks Namespaces in XML is a fault, with its clause */
     bool reads_prefixes; /* prefixes in values have a meaning for it, so a tag that takes one back is a fault */
-    size_t depth;      /* the most elements that may be open; 0: USUAL_DEPTH */
+    size_t depth;      /* the most elements that may be open, and entities, or brackets of a declaration, in one another (always 500); 0: USUAL_DEPTH */
     size_t memory;     /* the most bytes that may be held of the document; 0: USUAL_MEMORY */
     size_t attributes; /* the most of a tag, with declarations of namespaces; 0: USUAL_ATTRIBUTES */
 };

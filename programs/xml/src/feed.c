@@ -30,6 +30,7 @@ void feed_open(struct feed *feed, const struct byte_source *source, struct fault
 
 void feed_close(struct feed *feed) {
     decoding_free(&feed->decoding);
+    bytes_free(&feed->models.separators);
     bytes_free(&feed->text);
     bytes_free(&feed->room);
 }
@@ -227,7 +228,7 @@ static void forget(struct feed *feed) {
 }
 
 bool feed_is_over(const struct feed *feed) {
-    return parser_memory_held() + feed->text.capacity + feed->room.capacity + feed->kept > feed->most;
+    return parser_memory_held() + feed->text.capacity + feed->room.capacity + feed->models.separators.capacity + feed->kept > feed->most;
 }
 
 const char *feed_raising(const struct feed *feed) {
@@ -431,6 +432,10 @@ static void give(struct feed *feed, char *bytes, size_t count) {
         mark_controls(&feed->controls, feed->begin + feed->given, (struct span){from, left}, bytes, count);
     } else {
         memcpy(bytes, from, count);
+    }
+    make_shallow(&feed->models, bytes, count);
+    if (feed->models.separators.failed) {
+        fault_set(feed->fault, FAULT_MEMORY, (struct place){0, 0}, "out of memory");
     }
     feed->given += count;
     if (feed->controls.has_marks && !had_marks) {

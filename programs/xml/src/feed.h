@@ -1,13 +1,14 @@
 /* Gives a document's text to libxml2 as it reads, and knows the place of each offset in the text.
  *
  * The text is what `decoding.h` makes of the document, so libxml2 sees UTF-8 with a line feed for each line end, whatever the document's encoding. In XML 1.1
- * it sees marks in the place of the references that `controls.h` finds. */
+ * it sees marks in the place of the references that `controls.h` finds. `models.h` says what it sees of content models. */
 #ifndef FEED_H
 #define FEED_H
 
 #include "controls.h"
 #include "decoding.h"
 #include "events.h"
+#include "models.h"
 
 #include <libxml/parser.h>
 
@@ -45,6 +46,7 @@ struct feed {
     uint64_t next;      /* the offset of the markup or the text that is being read */
     struct tag_scan scan;
     struct control_scan controls; /* in a document of XML 1.1 */
+    struct model_scan models;
     bool spells;        /* marks in namespaces are spelled (spell_controls), and do not become characters */
     struct bytes room;  /* where the document's bytes are read */
     uint64_t long_at;   /* the offset of markup that is so long that its beginning is not kept, .. */

@@ -91,6 +91,7 @@ void nest_parameter(struct declarations *declarations, const xmlEntity *entity) 
         open_read(declarations, entity, left_of(input));
         input->cur -= text.length;
         memcpy((xmlChar *)input->cur, text.data, text.length);
+        declarations_flatten(declarations, (char *)input->cur, text.length);
         input->base = input->cur; /* nothing is before it */
         input->consumed++;        /* libxml2 takes it for an error if nothing is read */
     }

@@ -1,7 +1,7 @@
 /* Reads parameter entities that are in many others.
  *
- * libxml2 has an input for each entity that it reads, of at most some 1,024. From some inputs on, the text of an entity is put in front of what is left of the text
- * that is read. */
+ * libxml2 has an input for each entity that it reads, and at most some 1,024. From some inputs on, the text of an entity is put in front of what is left of
+ * the text that is read. */
 #ifndef NESTED_PARAMETERS_H
 #define NESTED_PARAMETERS_H
 

@@ -88,7 +88,7 @@ const char *options_help(void) {
            "      --stdin-name NAME  how standard input is called in what is printed\n"
            "  -j, --jobs N         judge N documents at once, 64 at most (else the number of processors)\n"
            "      --dtd            read the external DTD and external entities of a document, from files\n"
-           "      --max-depth N    the most elements that may be open, or entities in one another (else 10,000)\n"
+           "      --max-depth N    the most elements that may be open; also entities, or brackets of a declaration, in one another (else 10,000)\n"
            "      --max-memory SIZE  the most memory that a document may take, in bytes, or with K, M or G (else 512M)\n"
            "      --max-attributes N  the most attributes and declarations of a tag, and choices of one that is declared (else 10,000);\n"
            "                       above that also the most of them by default (else 1,000); time grows with the square of these\n"

@@ -87,6 +87,9 @@ void add_words(struct bytes *line, parser_error *error) {
     case XML_ERR_ENTITY_LOOP:
         bytes_add_text(line, "recursive entity reference");
         break;
+    case XML_ERR_SEPARATOR_REQUIRED:
+        bytes_add_text(line, "',' and '|' in one bracket of a declaration");
+        break;
     case XML_ERR_LT_IN_ATTRIBUTE:
         bytes_add_text(line, "'<' in the value of an attribute");
         break;

@@ -1,0 +1,202 @@
+#include "models.h"
+
+/* What markup begins so. */
+static const struct {
+    char text[LONGEST_BEGINNING + 1];
+    enum model_part part;
+} beginnings[] = {{"<!--", MODEL_COMMENT}, {"<?", MODEL_INSTRUCTION}, {"<!ELEMENT", MODEL_INSIDE}, {"<![", MODEL_END}};
+
+static bool is_blank(char byte) {
+    return byte == ' ' || byte == '\t' || byte == '\n' || byte == '\r';
+}
+
+/* Leaves a byte that is a fault to libxml2. */
+static char leave(struct model_scan *scan, char byte) {
+    scan->part = MODEL_END;
+    return byte;
+}
+
+/* Takes a byte outside of models. */
+static void take_outside(struct model_scan *scan, char byte) {
+    if (byte == '"' || byte == '\'') {
+        scan->part = MODEL_LITERAL;
+        scan->quote = byte;
+    } else if (byte == '<') {
+        scan->part = MODEL_BEGINNING;
+        scan->read[0] = byte;
+        scan->count = 1;
+    }
+}
+
+/* Takes one more byte of a beginning. */
+static void take_beginning(struct model_scan *scan, char byte) {
+    size_t before = scan->count++;
+    scan->read[before] = byte;
+    for (size_t at = 0; at < sizeof beginnings / sizeof *beginnings; at++) {
+        if (beginnings[at].text[before] == byte && memcmp(beginnings[at].text, scan->read, before) == 0) {
+            bool is_whole = beginnings[at].text[scan->count] == '\0';
+            scan->part = is_whole ? beginnings[at].part : MODEL_BEGINNING;
+            scan->count = is_whole ? 0 : scan->count;
+            return;
+        }
+    }
+    scan->part = scan->read[1] == '!' ? MODEL_OUTSIDE : MODEL_END;
+    scan->count = 0;
+    if (scan->part == MODEL_OUTSIDE) {
+        take_outside(scan, byte);
+    }
+}
+
+/* Takes a byte of a comment or an instruction, which ends with `>` behind so many of these bytes. */
+static void take_until(struct model_scan *scan, char byte, char end, size_t wanted) {
+    if (byte == '>' && scan->count >= wanted) {
+        scan->part = MODEL_OUTSIDE;
+    }
+    scan->count = byte == end ? scan->count + 1 : 0;
+}
+
+/* Goes into a bracket. */
+static char open(struct model_scan *scan) {
+    if (scan->depth >= scan->most) {
+        return leave(scan, DEEP_BRACKET);
+    }
+    scan->depth++;
+    if (scan->depth >= FLAT_DEPTH) {
+        bytes_add_byte(&scan->separators, '\0');
+        scan->is_after = false;
+        scan->is_closed = false;
+    }
+    if (scan->separators.failed) {
+        scan->part = MODEL_END;
+    }
+    return scan->depth > FLAT_DEPTH ? ' ' : '(';
+}
+
+/* Goes out of a bracket that libxml2 may not get. */
+static char close(struct model_scan *scan) {
+    scan->depth--;
+    scan->separators.length--;
+    scan->is_closed = true;
+    return scan->depth >= FLAT_DEPTH ? ' ' : ')';
+}
+
+/* Takes a separator. A bracket has those of one kind. Libxml2 finds a bar where it had a comma. */
+static char separate(struct model_scan *scan, char byte) {
+    char *separator = &scan->separators.data[scan->separators.length - 1];
+    if (*separator != '\0' && *separator != byte) {
+        return leave(scan, '|');
+    }
+    *separator = byte;
+    scan->is_after = false;
+    scan->is_closed = false;
+    return ',';
+}
+
+/* Takes a byte of a model in brackets of which libxml2 gets no more. */
+static char take_deep(struct model_scan *scan, char byte) {
+    bool is_behind = scan->is_closed;
+    scan->is_closed = false;
+    switch (byte) {
+    case '(':
+        return scan->is_after ? leave(scan, byte) : open(scan);
+    case ')':
+        return scan->is_after ? close(scan) : leave(scan, byte);
+    case ',':
+    case '|':
+        return scan->is_after ? separate(scan, byte) : leave(scan, byte);
+    case '?':
+    case '*':
+    case '+':
+        return is_behind ? ' ' : byte;
+    default:
+        scan->is_after |= !is_blank(byte);
+        return byte;
+    }
+}
+
+/* Takes a byte of the declaration of an element. */
+static char take_inside(struct model_scan *scan, char byte) {
+    if (byte == '>') {
+        scan->part = MODEL_OUTSIDE;
+        scan->depth = 0;
+        bytes_clear(&scan->separators);
+    } else if (scan->depth >= FLAT_DEPTH) {
+        return take_deep(scan, byte);
+    } else if (byte == '(') {
+        return open(scan);
+    } else if (byte == ')' && scan->depth > 0) {
+        scan->depth--;
+    }
+    return byte;
+}
+
+/* Takes a byte. Returns what libxml2 gets in its place. */
+static char take(struct model_scan *scan, char byte) {
+    switch (scan->part) {
+    case MODEL_OUTSIDE:
+        take_outside(scan, byte);
+        break;
+    case MODEL_LITERAL:
+        scan->part = byte == scan->quote ? MODEL_OUTSIDE : MODEL_LITERAL;
+        break;
+    case MODEL_BEGINNING:
+        take_beginning(scan, byte);
+        break;
+    case MODEL_COMMENT:
+        take_until(scan, byte, '-', 2);
+        break;
+    case MODEL_INSTRUCTION:
+        take_until(scan, byte, '?', 1);
+        break;
+    case MODEL_INSIDE:
+        return take_inside(scan, byte);
+    case MODEL_REFERRING:
+        scan->part = byte == '>' ? MODEL_OUTSIDE : MODEL_REFERRING;
+        break;
+    case MODEL_END:
+        break;
+    }
+    return byte;
+}
+
+/* The place of the next byte that may have to be taken. */
+static size_t next(const struct model_scan *scan, struct span text, size_t at) {
+    static const char of_parts[][4] = {[MODEL_OUTSIDE] = "<\"'",    [MODEL_LITERAL] = "\"'\"", [MODEL_COMMENT] = "---",
+                                       [MODEL_INSTRUCTION] = "???", [MODEL_INSIDE] = "()>",    [MODEL_REFERRING] = ">>>"};
+    bool is_each = scan->part == MODEL_BEGINNING || scan->count > 0 || scan->depth >= FLAT_DEPTH;
+    const char *bytes = of_parts[scan->part];
+    while (at < text.length && !is_each && text.data[at] != bytes[0] && text.data[at] != bytes[1] && text.data[at] != bytes[2]) {
+        at++;
+    }
+    return at;
+}
+
+void make_shallow(struct model_scan *scan, char *text, size_t length) {
+    size_t at = 0;
+    while (at < length && scan->part != MODEL_END) {
+        at = next(scan, (struct span){text, length}, at);
+        if (at < length) {
+            text[at] = take(scan, text[at]);
+            at++;
+        }
+    }
+}
+
+/* Whether the declaration in whose text this is refers to a parameter entity. */
+static bool refers(const char *text, size_t length) {
+    const char *end = memchr(text, '>', length);
+    return memchr(text, '%', end == NULL ? length : (size_t)(end - text)) != NULL;
+}
+
+bool make_declarations_shallow(char *text, size_t length, size_t most) {
+    struct model_scan scan = {.most = most};
+    for (size_t at = 0; at < length && scan.part != MODEL_END; at++) {
+        bool was_inside = scan.part == MODEL_INSIDE;
+        text[at] = take(&scan, text[at]);
+        bool is_begun = scan.part == MODEL_INSIDE && !was_inside;
+        scan.part = is_begun && refers(text + at, length - at) ? MODEL_REFERRING : scan.part;
+    }
+    bool is_good = !scan.separators.failed;
+    bytes_free(&scan.separators);
+    return is_good;
+}
