@@ -386,9 +386,14 @@ static struct twin *load(struct declarations *declarations, const xmlEntity *ent
         bytes_add_byte(&text, '\n'); /* of the external DTD libxml2 would read a second mark or declaration at the start */
     }
     const struct external external = {entity->ExternalID, entity->URI, declarations->feed->decoding.is_1_1};
-    bool is_read = twin != NULL && external_read(&external, &text, &path, &why);
+    bool has_doubt = false;
+    bool is_read = twin != NULL && external_read(&external, &text, &path, &has_doubt, &why);
     if (twin != NULL && !is_read) {
         refuse_external(declarations, entity->SystemID, &why);
+    }
+    if (has_doubt && !declarations->feed->has_told_doubt) {
+        declarations->feed->has_told_doubt = true;
+        note_of(declarations, declarations_place(declarations), "%s", BAD_CAST read_as_java);
     }
     if (is_read) {
         declarations->loaded += text.length;

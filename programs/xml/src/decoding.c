@@ -13,6 +13,8 @@ enum {
 
 static const char NEXT_LINE_BEGINS = '\xC2'; /* in UTF-8 */
 
+const char read_as_java[] = "a code of this encoding is read as Java reads it; other programs read another character, or none";
+
 static void refuse(struct decoding *decoding, enum fault_kind kind, const char *what) {
     fault_set(&decoding->fault, kind, (struct place){0, 0}, "%s", what);
 }
@@ -325,6 +327,17 @@ static void add_piece(struct decoding *decoding, const char *bytes, size_t lengt
     }
 }
 
+/* Adds what the transcoder has given, and finds where the first code is that other programs read otherwise. */
+static void add_decoded(struct decoding *decoding, struct bytes *text) {
+    size_t before = decoding->transcoder.has_doubt && !decoding->has_doubt ? decoding->transcoder.doubt_at : 0;
+    add_piece(decoding, decoding->decoded.data, before, text);
+    if (decoding->transcoder.has_doubt && !decoding->has_doubt && decoding->fault.kind == FAULT_NONE) {
+        decoding->has_doubt = true;
+        decoding->doubt_at = text->length;
+    }
+    add_piece(decoding, decoding->decoded.data + before, decoding->decoded.length - before, text);
+}
+
 /* Adds bytes of the encoding, which is known. */
 static void add_bytes(struct decoding *decoding, const char *bytes, size_t length, struct bytes *text) {
     if (!decoding->is_transcoded) {
@@ -333,7 +346,7 @@ static void add_bytes(struct decoding *decoding, const char *bytes, size_t lengt
     }
     bytes_clear(&decoding->decoded);
     enum decoded decoded = transcoder_add(&decoding->transcoder, bytes, length, &decoding->decoded);
-    add_piece(decoding, decoding->decoded.data, decoding->decoded.length, text);
+    add_decoded(decoding, text);
     if (decoded == DECODED_NO_MEMORY) {
         out_of_memory(decoding);
     } else if (decoded == DECODED_DOUBTFUL) {
@@ -379,7 +392,7 @@ void decoding_end(struct decoding *decoding, struct bytes *text) {
     if (decoding->fault.kind == FAULT_NONE && decoding->is_transcoded) {
         bytes_clear(&decoding->decoded);
         enum decoded decoded = transcoder_end(&decoding->transcoder, &decoding->decoded);
-        add_piece(decoding, decoding->decoded.data, decoding->decoded.length, text);
+        add_decoded(decoding, text);
         if (decoded == DECODED_NO_MEMORY) {
             out_of_memory(decoding);
         }

@@ -31,11 +31,15 @@ struct decoding {
     struct bytes decoded; /* what the transcoder gives */
     char begun[4];        /* the first bytes of a character of UTF-8 whose other bytes have not come */
     size_t begun_length;
+    bool has_doubt;       /* there was a code that other programs read otherwise. The first one .. */
+    size_t doubt_at;      /* .. was here in the text that was given then */
     bool after_return;    /* the last character was a carriage return: a line feed behind it belongs to it */
     struct fault fault;   /* why nothing comes after the text that was given. Its place is the end of that text */
 };
 
-#define NO_DECODING {false, false, 0, NO_BYTES, 0, false, FAMILY_BYTES, NO_TRANSCODER, false, NO_BYTES, {0}, 0, false, NO_FAULT}
+#define NO_DECODING {false, false, 0, NO_BYTES, 0, false, FAMILY_BYTES, NO_TRANSCODER, false, NO_BYTES, {0}, 0, false, 0, false, NO_FAULT}
+
+extern const char read_as_java[]; /* the words of a note about such a code */
 
 /* Adds the characters of the bytes to the text. Once there is a fault, no more are added. */
 void decoding_take(struct decoding *decoding, const char *bytes, size_t length, struct bytes *text);

@@ -8,10 +8,45 @@ enum {
     MOST_DIGITS = 5,
     HEBREW = 1255,
     VIETNAMESE = 1258,
+    JOHAB = 1361,
     URDU = 868,
     URDU_OF_EBCDIC = 918,
     NO_LAST_BYTE = 0x7F
 };
+
+/* Signs of a correction, beside its character. */
+enum {
+    DOUBT = 0x40000000,  /* other programs read its codes otherwise */
+    LISTED = 0x20000000, /* instead of a character there is the number of a list of characters */
+    SIGNS = DOUBT | LISTED
+};
+
+/* Characters that follow each other in no order. */
+static const unsigned short urdu[] = {
+    0x6F0, 0x6F1, 0x6F2, 0x6F3, 0x6F4, 0x6F5, 0x6F6, 0x6F7, 0x6F8, 0x6F9, 0x60C, 0x61B, 0x61F, 0xFE81, 0xFE8D, 0xFE8E,
+    0xF8FB, 0xFE8F, 0xFE91, 0xFB56, 0xFB58, 0xFE93, 0xFE95, 0xFE97, 0xFB66, 0xFB68, 0xFE99, 0xFE9B, 0xFE9D, 0xFE9F, 0xFB7A, 0xFB7C,
+    0xFEA1, 0xFEA3, 0xFEA5, 0xFEA7, 0xFEA9, 0xFB88, 0xFEAB, 0xFEAD, 0xFB8C, 0xFEAF, 0xFB8A, 0xFEB1, 0xFEB3, 0xFEB5, 0xAB, 0xBB,
+    0x2591, 0x2592, 0x2593, 0x2502, 0x2524, 0xFEB7, 0xFEB9, 0xFEBB, 0xFEBD, 0x2563, 0x2551, 0x2557, 0x255D, 0xFEBF, 0xFEC3, 0x2510,
+    0x2514, 0x2534, 0x252C, 0x251C, 0x2500, 0x253C, 0xFEC7, 0xFEC9, 0x255A, 0x2554, 0x2569, 0x2566, 0x2560, 0x2550, 0x256C, 0xFECA,
+    0xFECB, 0xFECC, 0xFECD, 0xFECE, 0xFECF, 0xFED0, 0xFED1, 0xFED3, 0xFED5, 0x2518, 0x250C, 0x2588, 0x2584, 0xFED7, 0xFB8E, 0x2580,
+    0xFEDB, 0xFB92, 0xFB94, 0xFEDD, 0xFEDF, 0xFEE0, 0xFEE1, 0xFEE3, 0xFB9E, 0xFEE5, 0xFEE7, 0xFE85, 0xFEED, 0xFBA6, 0xFBA8, 0xFBA9,
+    0xAD, 0xFBAA, 0xFE80, 0xFE89, 0xFE8A, 0xFE8B, 0xFBFC, 0xFBFD, 0xFBFE, 0xFBB0, 0xFBAE, 0xFE7C, 0xFE7D, 0, 0x25A0, 0xA0,
+};
+static const unsigned short urdu_of_ebcdic[] = {
+    0x20, 0xA0, 0x60C, 0x61B, 0x61F, 0xFE81, 0xFE8D, 0xFE8E, 0xF8FB, 0xFE8F, 0x5B, 0x2E, 0x3C, 0x28, 0x2B, 0x21,
+    0x26, 0xFE91, 0xFB56, 0xFB58, 0xFE93, 0xFE95, 0xFE97, 0xFB66, 0xFB68, 0xFE99, 0x5D, 0x24, 0x2A, 0x29, 0x3B, 0x5E,
+    0x2D, 0x2F, 0xFE9B, 0xFE9D, 0xFE9F, 0xFB7A, 0xFB7C, 0xFEA1, 0xFEA3, 0xFEA5, 0x60, 0x2C, 0x25, 0x5F, 0x3E, 0x3F,
+    0x6F0, 0x6F1, 0x6F2, 0x6F3, 0x6F4, 0x6F5, 0x6F6, 0x6F7, 0x6F8, 0x6F9, 0x3A, 0x23, 0x40, 0x27, 0x3D, 0x22,
+    0xFEA7, 0x61, 0x62, 0x63, 0x64, 0x65, 0x66, 0x67, 0x68, 0x69, 0xFEA9, 0xFB88, 0xFEAB, 0xFEAD, 0xFB8C, 0xFEAF,
+    0xFB8A, 0x6A, 0x6B, 0x6C, 0x6D, 0x6E, 0x6F, 0x70, 0x71, 0x72, 0xFEB1, 0xFEB3, 0xFEB5, 0xFEB7, 0xFEB9, 0xFEBB,
+    0xFEBD, 0x7E, 0x73, 0x74, 0x75, 0x76, 0x77, 0x78, 0x79, 0x7A, 0xFEBF, 0xFEC3, 0xFEC7, 0xFEC9, 0xFECA, 0xFECB,
+    0xFECC, 0xFECD, 0xFECE, 0xFECF, 0xFED0, 0xFED1, 0xFED3, 0xFED5, 0xFED7, 0xFB8E, 0xFEDB, 0x7C, 0xFB92, 0xFB94, 0xFEDD, 0xFEDF,
+    0x7B, 0x41, 0x42, 0x43, 0x44, 0x45, 0x46, 0x47, 0x48, 0x49, 0xAD, 0xFEE0, 0xFEE1, 0xFEE3, 0xFB9E, 0xFEE5,
+    0x7D, 0x4A, 0x4B, 0x4C, 0x4D, 0x4E, 0x4F, 0x50, 0x51, 0x52, 0xFEE7, 0xFE85, 0xFEED, 0xFBA6, 0xFBA8, 0xFBA9,
+    0x5C, 0xFBAA, 0x53, 0x54, 0x55, 0x56, 0x57, 0x58, 0x59, 0x5A, 0xFE80, 0xFE89, 0xFE8A, 0xFE8B, 0xFBFC, 0xFBFD,
+    0x30, 0x31, 0x32, 0x33, 0x34, 0x35, 0x36, 0x37, 0x38, 0x39, 0xFBFE, 0xFBB0, 0xFBAE, 0xFE7C, 0xFE7D, 0x9F,
+};
+static const unsigned short *const lists[] = {urdu, urdu_of_ebcdic};
 
 const char *encoding_table(const char *encoding) {
     static const struct {
@@ -27,7 +62,10 @@ const char *encoding_table(const char *encoding) {
         {"cp936", "GBK"},
         {"csbig5", "BIG5"},
         {"cseucpkdfmtjapanese", "EUC-JP"},
+        {"csiso13jisc6220jp", "X0201"},
+        {"csiso2022cn", "ISO-2022-CN"},
         {"csiso2022jp", "ISO-2022-JP"},
+        {"csiso2022kr", "ISO-2022-KR"},
         {"csksc56011987", "EUC-KR"},
         {"csshiftjis", "SHIFT_JIS"},
         {"ebcdic-cp-ar1", "IBM420"},
@@ -43,7 +81,10 @@ const char *encoding_table(const char *encoding) {
         {"extended_unix_code_packed_format_for_japanese", "EUC-JP"},
         {"iso-8859-8-i", "ISO-8859-8"},
         {"iso-ir-149", "EUC-KR"},
+        {"iso2022cn", "ISO-2022-CN"},
         {"iso2022jp", "ISO-2022-JP"},
+        {"iso2022kr", "ISO-2022-KR"},
+        {"johab", "CP1361"},
         {"korean", "EUC-KR"},
         {"ks_c_5601-1987", "EUC-KR"},
         {"ks_c_5601-1989", "EUC-KR"},
@@ -51,7 +92,9 @@ const char *encoding_table(const char *encoding) {
         {"ms-hebr", "CP1255"},
         {"ms936", "GBK"},
         {"ms_kanji", "SHIFT_JIS"},
+        {"mscp1361", "CP1361"},
         {"shift-jis", "SHIFT_JIS"},
+        {"shiftjisx0213", "SHIFT_JISX0213"},
         {"sjis", "SHIFT_JIS"},
         {"tis-620", "ISO-8859-11"}, /* the same with a no-break space, which programs read */
         {"ujis", "EUC-JP"},
@@ -80,7 +123,16 @@ unsigned encoding_number(const char *table) {
     static const struct {
         const char *name;
         unsigned number;
-    } named[] = {{"big5", BIG5}, {"euc-jp", EUC_JP}, {"gb18030", GB18030}, {"gbk", GBK}, {"iso-2022-jp", ISO_2022_JP}, {"shift_jis", SHIFT_JIS}};
+    } named[] = {{"big5", BIG5},
+                 {"euc-jp", EUC_JP},
+                 {"gb18030", GB18030},
+                 {"gbk", GBK},
+                 {"iso-2022-cn", ISO_2022_CN},
+                 {"iso-2022-jp", ISO_2022_JP},
+                 {"iso-2022-kr", ISO_2022_KR},
+                 {"shift_jis", SHIFT_JIS},
+                 {"shift_jisx0213", SHIFT_JISX0213},
+                 {"x0201", JIS_X0201}};
     unsigned number = 0;
     for (size_t at = 0; at < sizeof prefixes / sizeof *prefixes && number == 0; at++) {
         number = number_behind(table, prefixes[at]);
@@ -91,8 +143,17 @@ unsigned encoding_number(const char *table) {
     return number;
 }
 
-bool encoding_is_common(unsigned number) {
-    return number != URDU && number != URDU_OF_EBCDIC;
+const char *encoding_part(unsigned number) {
+    static const struct {
+        unsigned number;
+        const char *part;
+    } parts[] = {{ISO_2022_CN, "GB2312"}, {ISO_2022_JP, "EUC-JP"}, {ISO_2022_KR, "EUC-KR"}, {JIS_X0201, "SHIFT_JIS"}};
+    for (size_t at = 0; at < sizeof parts / sizeof *parts; at++) {
+        if (number == parts[at].number) {
+            return parts[at].part;
+        }
+    }
+    return NULL;
 }
 
 bool encoding_is_composed(unsigned number) {
@@ -101,6 +162,10 @@ bool encoding_is_composed(unsigned number) {
 
 bool encoding_has_bar(unsigned number) {
     return number == EUC_JP || number == ISO_2022_JP || number == SHIFT_JIS;
+}
+
+bool encoding_has_backslash(unsigned number) {
+    return number == SHIFT_JIS || number == SHIFT_JISX0213 || number == JOHAB;
 }
 
 size_t encoding_width(unsigned number, const char *bytes, size_t length) {
@@ -121,9 +186,11 @@ const struct correction *encoding_corrections(unsigned number) {
         {424, 0x8F, 0x8F, 0xB1},
         {424, 0xB3, 0xB3, 0x2022},
         {424, 0xBC, 0xBC, 0x203E},
+        {URDU, 0x80, 0xFF, LISTED | 0},
         {870, 0xB0, 0xB0, 0x2D9},
         {871, 0x4A, 0x4A, 0xDE},
         {871, 0xC0, 0xC0, 0xFE},
+        {URDU_OF_EBCDIC, 0x40, 0xFF, LISTED | 1},
         {1026, 0x9D, 0x9D, 0xB8},
         {1026, 0xBC, 0xBC, 0xAF},
         {BIG5, 0xA145, 0xA145, 0x2022},
@@ -157,19 +224,58 @@ const struct correction *encoding_corrections(unsigned number) {
         {BIG5, 0xC7FD, 0xC7FE, 0},
         {BIG5, 0xC840, 0xC87E, 0},
         {BIG5, 0xC8A1, 0xC8FE, 0},
-        {GB18030, 0xFE51, 0xFE53, 0},
-        {GB18030, 0xFE6C, 0xFE6C, 0},
-        {GB18030, 0xFE76, 0xFE76, 0},
-        {GB18030, 0xFE91, 0xFE91, 0},
-        {GB18030, 0x82359037, 0x82359039, 0},
-        {GB18030, 0x82359130, 0x82359134, 0},
-        {GB18030, 0x84318236, 0x84318239, 0},
-        {GB18030, 0x84318330, 0x84318335, 0},
+        {GB18030, 0xFE51, 0xFE53, DOUBT | 0xE816},
+        {GB18030, 0xFE6C, 0xFE6C, DOUBT | 0xE831},
+        {GB18030, 0xFE76, 0xFE76, DOUBT | 0xE83B},
+        {GB18030, 0xFE91, 0xFE91, DOUBT | 0xE855},
+        {GB18030, 0x82359037, 0x82359037, DOUBT | 0xE81E},
+        {GB18030, 0x82359038, 0x82359038, DOUBT | 0xE826},
+        {GB18030, 0x82359039, 0x82359039, DOUBT | 0xE82B},
+        {GB18030, 0x82359130, 0x82359130, DOUBT | 0xE82C},
+        {GB18030, 0x82359131, 0x82359131, DOUBT | 0xE832},
+        {GB18030, 0x82359132, 0x82359132, DOUBT | 0xE843},
+        {GB18030, 0x82359133, 0x82359133, DOUBT | 0xE854},
+        {GB18030, 0x82359134, 0x82359134, DOUBT | 0xE864},
+        {GB18030, 0x84318236, 0x84318236, DOUBT | 0xE78D},
+        {GB18030, 0x84318237, 0x84318237, DOUBT | 0xE78F},
+        {GB18030, 0x84318238, 0x84318238, DOUBT | 0xE78E},
+        {GB18030, 0x84318239, 0x84318239, DOUBT | 0xE790},
+        {GB18030, 0x84318330, 0x84318335, DOUBT | 0xE791},
         {GBK, 0xA140, 0xA7A0, 0xE4C6},
+        {GBK, 0xA2AB, 0xA2B0, DOUBT | 0xE766},
         {GBK, 0xA2E3, 0xA2E3, 0x20AC},
+        {GBK, 0xA2E4, 0xA2E4, DOUBT | 0xE76D},
+        {GBK, 0xA2EF, 0xA2F0, DOUBT | 0xE76E},
+        {GBK, 0xA2FD, 0xA2FE, DOUBT | 0xE770},
+        {GBK, 0xA4F4, 0xA4FE, DOUBT | 0xE772},
+        {GBK, 0xA5F7, 0xA5FE, DOUBT | 0xE77D},
+        {GBK, 0xA6B9, 0xA6C0, DOUBT | 0xE785},
+        {GBK, 0xA6D9, 0xA6DF, DOUBT | 0xE78D},
+        {GBK, 0xA6EC, 0xA6ED, DOUBT | 0xE794},
+        {GBK, 0xA6F3, 0xA6F3, DOUBT | 0xE796},
+        {GBK, 0xA6F6, 0xA6FE, DOUBT | 0xE797},
+        {GBK, 0xA7C2, 0xA7D0, DOUBT | 0xE7A0},
+        {GBK, 0xA7F2, 0xA7FE, DOUBT | 0xE7AF},
         {GBK, 0xA892, 0xA892, 0x2641},
+        {GBK, 0xA896, 0xA8A0, DOUBT | 0xE7BC},
+        {GBK, 0xA8BC, 0xA8BC, DOUBT | 0xE7C7},
+        {GBK, 0xA8BF, 0xA8BF, DOUBT | 0xE7C8},
+        {GBK, 0xA8C1, 0xA8C4, DOUBT | 0xE7C9},
+        {GBK, 0xA8EA, 0xA8FE, DOUBT | 0xE7CD},
+        {GBK, 0xA958, 0xA958, DOUBT | 0xE7E2},
+        {GBK, 0xA95B, 0xA95B, DOUBT | 0xE7E3},
+        {GBK, 0xA95D, 0xA95F, DOUBT | 0xE7E4},
+        {GBK, 0xA989, 0xA995, DOUBT | 0xE7E7},
+        {GBK, 0xA997, 0xA9A3, DOUBT | 0xE7F4},
+        {GBK, 0xA9F0, 0xA9FE, DOUBT | 0xE801},
         {GBK, 0xAAA1, 0xAFFE, 0xE000},
+        {GBK, 0xD7FA, 0xD7FE, DOUBT | 0xE810},
         {GBK, 0xF8A1, 0xFEFE, 0xE234},
+        {GBK, 0xFE50, 0xFEA0, DOUBT | 0xE815},
+        {JIS_X0201, 0x5C, 0x5C, DOUBT | 0x5C},
+        {JIS_X0201, 0x7E, 0x7E, DOUBT | 0x7E},
+        {JIS_X0201, 0x80, 0xA0, 0},
+        {JIS_X0201, 0xE0, 0xFF, 0},
         {0, 0, 0, 0},
     };
     const struct correction *found = corrections;
@@ -199,8 +305,16 @@ static unsigned steps(unsigned from, unsigned to) {
 }
 
 unsigned encoding_corrected(const struct correction *correction, unsigned code) {
+    unsigned character = correction->character & ~(unsigned)SIGNS;
+    if ((correction->character & LISTED) != 0) {
+        return lists[character][code - correction->first];
+    }
     unsigned first = correction->first & 0xFF;
     unsigned in_a_row = steps(first, correction->last & 0xFF) + 1;
     unsigned rows = (code >> 8) - (correction->first >> 8);
-    return correction->character == 0 ? 0 : correction->character + rows * in_a_row + steps(first, code & 0xFF);
+    return character == 0 ? 0 : character + rows * in_a_row + steps(first, code & 0xFF);
+}
+
+bool encoding_is_doubtful(const struct correction *correction) {
+    return (correction->character & DOUBT) != 0;
 }

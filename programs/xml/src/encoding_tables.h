@@ -6,7 +6,7 @@
 #include <stddef.h>
 
 /* Numbers of tables that are not of IBM or Microsoft, which have less digits. */
-enum { BIG5 = 1000000, EUC_JP, GB18030, GBK, ISO_2022_JP, SHIFT_JIS };
+enum { BIG5 = 1000000, EUC_JP, GB18030, GBK, ISO_2022_CN, ISO_2022_JP, ISO_2022_KR, JIS_X0201, SHIFT_JIS, SHIFT_JISX0213 };
 
 /* Codes of a table whose characters are not those of iconv. A code is a number that has the bytes of a character as its digits. The codes are those from the
  * first to the last one whose last byte is from that of the first to that of the last one, and is not 0x7F. */
@@ -14,7 +14,7 @@ struct correction {
     unsigned number; /* of the table */
     unsigned first;
     unsigned last;
-    unsigned character; /* of the first code. The others have those behind it. 0: programs read the codes in different ways */
+    unsigned character; /* of the first code, with signs. The others have those behind it. 0: they are no characters */
 };
 
 /* The name for iconv of the table that an encoding has: the name itself, unless iconv does not know it, has another table for it, or the table has a number
@@ -24,14 +24,17 @@ const char *encoding_table(const char *encoding);
 /* The number of a table above, or in a name of a table of IBM or Microsoft; 0: it is no such name. */
 unsigned encoding_number(const char *table);
 
-/* Whether iconv has the characters that other programs have in the table, but for corrections. */
-bool encoding_is_common(unsigned number);
+/* The name for iconv of the table that has the codes of the one with this number, but for its escapes or corrections. NULL: iconv has the table itself. */
+const char *encoding_part(unsigned number);
 
 /* Whether iconv composes letters of the table with the marks behind them. A document has them apart, and so have other programs. */
 bool encoding_is_composed(unsigned number);
 
 /* Whether iconv reads the dash of JIS X 0208 as a bar, U+2015. */
 bool encoding_has_bar(unsigned number);
+
+/* Whether Java has `\` and `~` in the table, in the place of the characters of iconv. */
+bool encoding_has_backslash(unsigned number);
 
 /* How many bytes the character at the start of the bytes has, if the table has corrections. It may be more than there are. */
 size_t encoding_width(unsigned number, const char *bytes, size_t length);
@@ -42,7 +45,10 @@ const struct correction *encoding_corrections(unsigned number);
 /* The correction that has the code, or NULL. */
 const struct correction *encoding_correction(const struct correction *corrections, unsigned code);
 
-/* The character of a code of the correction; 0: programs read it in different ways. */
+/* The character of a code of the correction; 0: it is none. */
 unsigned encoding_corrected(const struct correction *correction, unsigned code);
+
+/* Whether other programs read the codes of the correction as other characters than Java, or not at all. */
+bool encoding_is_doubtful(const struct correction *correction);
 
 #endif

@@ -9,10 +9,7 @@ enum {
     ROOM = 16384,
     MOST_TOGETHER = 4096,     /* bytes that iconv gets at once. Their characters have room */
     LONGEST_CHARACTER = 64,
-    OPEN_SYSTEMS = 1047,      /* the number of the table of EBCDIC whose line feed is a line feed */
-    FIRST_OF_KATAKANA = 0x21, /* of the half-width letters of JIS X 0201 in seven bits */
-    LAST_OF_KATAKANA = 0x5F,
-    KATAKANA = 0xFF61         /* the first one in Unicode */
+    OPEN_SYSTEMS = 1047       /* the number of the table of EBCDIC whose line feed is a line feed */
 };
 
 /* The two bytes of EBCDIC, which iconv reads as a next line and as a line feed. */
@@ -20,10 +17,6 @@ static const char NEXT_LINE = '\x15';
 static const char LINE_FEED = '\x25';
 
 static const char NO_CHARACTER = '\xFF'; /* no UTF-8 has it */
-
-static const char ESCAPE = '\x1B';
-static const char TO_KATAKANA[] = "\x1B(I";
-enum { LENGTH_TO_KATAKANA = sizeof TO_KATAKANA - 1 };
 
 /* Writes what the byte alone is in UTF-8 to `text`, and returns the length. 0: the byte is no character. */
 static size_t alone(iconv_t descriptor, char byte, char *text, size_t size) {
@@ -52,7 +45,7 @@ static bool keeps_ascii(struct transcoder *transcoder) {
         if (length == 0 || (code != '\\' && code != '~' && code != '%')) {
             return false;
         }
-        transcoder->has_doubts |= code != '%';
+        transcoder->replaces_ascii |= code != '%';
     }
     iconv(transcoder->descriptor, NULL, NULL, NULL, NULL);
     return true;
@@ -61,6 +54,10 @@ static bool keeps_ascii(struct transcoder *transcoder) {
 /* Opens iconv for the table. A number may have other digits there, as `IBM037` for `IBM-37` and `IBM1140` for `CP01140`. */
 static iconv_t opened(const char *table, unsigned number) {
     char numbered[16];
+    const char *part = encoding_part(number);
+    if (part != NULL) {
+        return iconv_open("UTF-8", part);
+    }
     iconv_t descriptor = iconv_open("UTF-8", table);
     if (descriptor == (iconv_t)-1 && number != 0) {
         snprintf(numbered, sizeof numbered, "IBM%03u", number);
@@ -74,25 +71,24 @@ bool transcoder_open_any(struct transcoder *transcoder, const char *encoding) {
     unsigned number = encoding_number(table);
     *transcoder = (struct transcoder)NO_TRANSCODER;
     /* these two are not names of encodings: they depend on the machine */
-    if (strcasecmp(encoding, "char") == 0 || strcasecmp(encoding, "wchar_t") == 0 || !encoding_is_common(number)) {
+    if (strcasecmp(encoding, "char") == 0 || strcasecmp(encoding, "wchar_t") == 0) {
         return false;
     }
     transcoder->descriptor = opened(table, number);
+    transcoder->other = number == ISO_2022_CN ? iconv_open("UTF-8", "EUC-TW") : (iconv_t)-1;
+    transcoder->has_escapes = number == ISO_2022_JP || number == ISO_2022_CN || number == ISO_2022_KR;
+    iso_2022_begin(&transcoder->escapes, number == ISO_2022_JP ? JAPANESE : number == ISO_2022_CN ? CHINESE : KOREAN);
     transcoder->number = number;
     transcoder->corrections = encoding_corrections(number);
     transcoder->composes = encoding_is_composed(number);
-    return transcoder->descriptor != (iconv_t)-1;
+    return transcoder->descriptor != (iconv_t)-1 && (number != ISO_2022_CN || transcoder->other != (iconv_t)-1);
 }
 
 bool transcoder_open(struct transcoder *transcoder, const char *encoding) {
     if (!transcoder_open_any(transcoder, encoding)) {
         return false;
     }
-    if (!keeps_ascii(transcoder)) {
-        transcoder_close(transcoder);
-        return false;
-    }
-    return true;
+    return keeps_ascii(transcoder);
 }
 
 bool transcoder_open_ebcdic(struct transcoder *transcoder, const char *encoding) {
@@ -135,28 +131,15 @@ static size_t uncorrected(const struct transcoder *transcoder, const char *from,
     return length < left ? length : left;
 }
 
-/* How many bytes are before the next escape sequence that iconv does not know, at most. An escape is in no longer character. */
-static size_t before_katakana(const char *from, size_t left) {
-    const char *found = memchr(from, ESCAPE, left);
-    while (found != NULL) {
-        size_t rest = left - (size_t)(found - from);
-        if (rest >= LENGTH_TO_KATAKANA && memcmp(found, TO_KATAKANA, LENGTH_TO_KATAKANA) == 0) {
-            return left - rest;
-        }
-        found = memchr(found + 1, ESCAPE, rest - 1);
-    }
-    return left;
-}
-
 /* Calls iconv once. It takes some of the bytes, from `from` on. */
-static size_t by_iconv(struct transcoder *transcoder, char **from, size_t *left, struct bytes *text) {
+static size_t by_iconv(iconv_t descriptor, char **from, size_t *left, struct bytes *text) {
     if (!bytes_reserve(text, ROOM)) {
         errno = ENOMEM;
         return (size_t)-1;
     }
     char *to = text->data + text->length;
     size_t room = ROOM;
-    size_t answer = iconv(transcoder->descriptor, from, left, &to, &room);
+    size_t answer = iconv(descriptor, from, left, &to, &room);
     text->length += ROOM - room;
     return answer;
 }
@@ -170,35 +153,66 @@ static size_t uncomposed(const char *from, size_t left) {
     return length == 0 ? 1 : length;
 }
 
-/* Takes a character that has a correction. Returns 0, or 1: programs read it in different ways. */
-static size_t take_corrected(const struct transcoder *transcoder, char **from, size_t *left, struct bytes *text) {
-    size_t width = encoding_width(transcoder->number, *from, *left);
-    unsigned code = code_of(*from, width);
-    unsigned character = encoding_corrected(encoding_correction(transcoder->corrections, code), code);
-    *from += width;
-    *left -= width;
-    if (character == 0) {
-        return 1;
-    }
-    bytes_add_character(text, character);
-    return 0;
+/* Notes that the next character is one that other programs read otherwise. */
+static void doubt(struct transcoder *transcoder, size_t at) {
+    transcoder->doubt_at = transcoder->has_doubt ? transcoder->doubt_at : at;
+    transcoder->has_doubt = true;
 }
 
-/* Takes a half-width letter, or their end at an escape. Returns 0, or 1: programs read the byte in different ways. */
-static size_t take_katakana(struct transcoder *transcoder, char **from, size_t *left, struct bytes *text) {
-    unsigned byte = (unsigned char)**from;
-    transcoder->is_katakana = **from != ESCAPE;
-    if (!transcoder->is_katakana) {
-        return 0;
+/* Takes a character that has a correction. */
+static void take_corrected(struct transcoder *transcoder, char **from, size_t *left, struct bytes *text) {
+    size_t width = encoding_width(transcoder->number, *from, *left);
+    unsigned code = code_of(*from, width);
+    const struct correction *correction = encoding_correction(transcoder->corrections, code);
+    unsigned character = encoding_corrected(correction, code);
+    *from += width;
+    *left -= width;
+    if (encoding_is_doubtful(correction)) {
+        doubt(transcoder, text->length);
     }
-    ++*from;
-    --*left;
-    if (byte > LAST_OF_KATAKANA) {
+    if (character == 0) {
         bytes_add_byte(text, NO_CHARACTER);
-    } else if (byte >= FIRST_OF_KATAKANA) {
-        bytes_add_character(text, KATAKANA + byte - FIRST_OF_KATAKANA);
+    } else {
+        bytes_add_character(text, character);
     }
-    return byte < FIRST_OF_KATAKANA;
+}
+
+/* Adds the character of a code that stands between escapes. */
+static void add_code(const struct transcoder *transcoder, const struct iso_2022_step *step, struct bytes *text) {
+    bool is_other = step->set == SET_CNS || step->set == SET_CNS_2 || step->set == SET_CNS_3;
+    char code[sizeof step->code];
+    char *from = code;
+    size_t left = step->code_length;
+    memcpy(code, step->code, sizeof code);
+    if (by_iconv(is_other ? transcoder->other : transcoder->descriptor, &from, &left, text) != 0) {
+        bytes_add_byte(text, NO_CHARACTER);
+    }
+}
+
+/* Takes ASCII, or what the bytes begin with. Answers as iconv does. */
+static size_t take_escaped(struct transcoder *transcoder, char **from, size_t *left, struct bytes *text) {
+    size_t length = iso_2022_plain(&transcoder->escapes, *from, *left);
+    if (length > 0) {
+        bytes_add(text, *from, length);
+    } else {
+        struct iso_2022_step step = iso_2022_next(&transcoder->escapes, *from, *left);
+        if (step.kind == ISO_2022_PART || step.kind == ISO_2022_WRONG) {
+            errno = step.kind == ISO_2022_PART ? EINVAL : EILSEQ;
+            return (size_t)-1;
+        }
+        if (step.is_doubtful) {
+            doubt(transcoder, text->length);
+        }
+        if (step.kind == ISO_2022_CODE) {
+            add_code(transcoder, &step, text);
+        } else if (step.kind == ISO_2022_CHARACTER) {
+            bytes_add_character(text, step.character);
+        }
+        length = step.length;
+    }
+    *from += length;
+    *left -= length;
+    return 0;
 }
 
 /* Takes some of the bytes, by iconv. The last character of `length` bytes may not be whole: it is taken with the bytes behind it. */
@@ -206,53 +220,45 @@ static size_t take_by_iconv(struct transcoder *transcoder, char **from, size_t *
     length = transcoder->composes ? uncomposed(*from, length) : length;
     size_t given = length;
     size_t rest = *left - length;
-    size_t answer = by_iconv(transcoder, from, &length, text);
+    size_t answer = by_iconv(transcoder->descriptor, from, &length, text);
     *left = rest + length;
     if (answer == (size_t)-1 && errno == EINVAL && rest > 0 && length < given) {
         return 0;
     }
-    return answer == 0 && transcoder->composes ? by_iconv(transcoder, NULL, NULL, text) : answer;
+    return answer == 0 && transcoder->composes ? by_iconv(transcoder->descriptor, NULL, NULL, text) : answer;
 }
 
 /* Takes some of the bytes: a character that iconv does not read so, or what iconv takes before the next one. Answers as iconv does. */
 static size_t some(struct transcoder *transcoder, char **from, size_t *left, struct bytes *text) {
-    if (transcoder->is_katakana) {
-        return take_katakana(transcoder, from, left, text);
+    if (transcoder->has_escapes) {
+        return take_escaped(transcoder, from, left, text);
     }
     size_t length = uncorrected(transcoder, *from, *left);
     if (length == 0) {
-        return take_corrected(transcoder, from, left, text);
-    }
-    length = transcoder->number == ISO_2022_JP ? before_katakana(*from, length) : length;
-    if (length == 0) {
-        transcoder->is_katakana = true;
-        *from += LENGTH_TO_KATAKANA;
-        *left -= LENGTH_TO_KATAKANA;
+        take_corrected(transcoder, from, left, text);
         return 0;
     }
     return take_by_iconv(transcoder, from, left, length, text);
 }
 
-/* Whether other programs read the bytes, which iconv does not: in GBK as private use, or as characters of later editions. */
-static bool is_read_elsewhere(const struct transcoder *transcoder, const char *from, size_t left) {
-    unsigned char last = left > 1 ? (unsigned char)from[1] : 0;
-    return transcoder->number == GBK && encoding_width(GBK, from, left) == 2 && last >= 0x40 && last != 0x7F && last != 0xFF;
-}
-
-/* The length of a yen sign or an overline at the start of the text, which replace `\` and `~` in some tables and not in others; 0: it is another character. */
+/* The length of a yen sign, a won sign or an overline at the start of the text, which replace `\` and `~` in some tables and not in others; 0: it is another
+ * character. */
 static size_t replacing(struct span text) {
     if (text.length >= 2 && memcmp(text.data, "\xC2\xA5", 2) == 0) {
         return 2;
     }
-    return text.length >= 3 && memcmp(text.data, "\xE2\x80\xBE", 3) == 0 ? 3 : 0;
+    return text.length >= 3 && (memcmp(text.data, "\xE2\x80\xBE", 3) == 0 || memcmp(text.data, "\xE2\x82\xA9", 3) == 0) ? 3 : 0;
 }
 
-/* Puts `\` and `~` in their places, from `begin` on. In Shift_JIS nothing else gives these two characters, and Java and browsers read them so. */
-static void put_back(struct bytes *text, size_t begin) {
+/* Puts `\` and `~` in their places, from `begin` on. Nothing else gives these characters in the tables. Browsers too read Shift_JIS so. */
+static void put_back(struct transcoder *transcoder, struct bytes *text, size_t begin) {
     size_t to = begin;
     for (size_t at = begin; at < text->length; to++) {
         size_t length = replacing((struct span){text->data + at, text->length - at});
-        text->data[to] = length == 0 ? text->data[at] : length == 2 ? '\\' : '~';
+        if (length > 0 && transcoder->number != SHIFT_JIS) {
+            doubt(transcoder, to);
+        }
+        text->data[to] = length == 0 ? text->data[at] : text->data[at] == '\xE2' && text->data[at + 1] == '\x80' ? '~' : '\\';
         at += length == 0 ? 1 : length;
     }
     text->length = to;
@@ -268,7 +274,7 @@ static void put_dashes(struct bytes *text, size_t begin) {
 }
 
 /* What is to be said of the text from `begin` on. */
-static enum decoded decoded_from(const struct transcoder *transcoder, struct bytes *text, size_t begin) {
+static enum decoded decoded_from(struct transcoder *transcoder, struct bytes *text, size_t begin) {
     bool is_doubtful = false;
     if (text->failed) {
         return DECODED_NO_MEMORY;
@@ -276,11 +282,11 @@ static enum decoded decoded_from(const struct transcoder *transcoder, struct byt
     if (encoding_has_bar(transcoder->number)) {
         put_dashes(text, begin);
     }
-    if (!transcoder->has_doubts) {
+    if (!transcoder->replaces_ascii) {
         return DECODED;
     }
-    if (transcoder->number == SHIFT_JIS) {
-        put_back(text, begin);
+    if (encoding_has_backslash(transcoder->number)) {
+        put_back(transcoder, text, begin);
         return DECODED;
     }
     for (size_t at = begin; at < text->length && !is_doubtful; at++) {
@@ -304,9 +310,6 @@ static enum decoded take_all(struct transcoder *transcoder, char **from, size_t 
         }
         if (errno == EINVAL && *left < LONGEST_CHARACTER) {
             break;
-        }
-        if (is_read_elsewhere(transcoder, *from, *left)) {
-            return DECODED_DOUBTFUL;
         }
         bytes_add_byte(text, NO_CHARACTER);
         ++*from;
@@ -332,7 +335,7 @@ enum decoded transcoder_add(struct transcoder *transcoder, const char *bytes, si
 
 enum decoded transcoder_end(struct transcoder *transcoder, struct bytes *text) {
     size_t begin = text->length;
-    size_t answer = by_iconv(transcoder, NULL, NULL, text);
+    size_t answer = by_iconv(transcoder->descriptor, NULL, NULL, text);
     if (text->failed) {
         return DECODED_NO_MEMORY;
     }
@@ -342,10 +345,15 @@ enum decoded transcoder_end(struct transcoder *transcoder, struct bytes *text) {
     return decoded_from(transcoder, text, begin);
 }
 
-void transcoder_close(struct transcoder *transcoder) {
-    if (transcoder->descriptor != (iconv_t)-1) {
-        iconv_close(transcoder->descriptor);
-        transcoder->descriptor = (iconv_t)-1;
+static void close_table(iconv_t *descriptor) {
+    if (*descriptor != (iconv_t)-1) {
+        iconv_close(*descriptor);
+        *descriptor = (iconv_t)-1;
     }
+}
+
+void transcoder_close(struct transcoder *transcoder) {
+    close_table(&transcoder->descriptor);
+    close_table(&transcoder->other);
     bytes_free(&transcoder->waiting);
 }

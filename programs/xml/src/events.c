@@ -1110,6 +1110,14 @@ static void read_by_libxml2(struct reader *reader) {
     parser_memory_end(&reader->memory);
 }
 
+/* Notes that a code of the encoding is read as Java reads it. */
+static void take_doubt(void *context, struct place place) {
+    const struct reader *reader = context;
+    parser_memory_pause(true);
+    reader->sink.note(reader->sink.context, place, read_as_java);
+    parser_memory_pause(false);
+}
+
 /* From now on texts and values may have marks for control characters. */
 static void use_marks(void *context) {
     struct reader *reader = context;
@@ -1136,6 +1144,7 @@ static void open_reader(struct reader *reader, const struct byte_source *source,
     }
 #endif
     reader->feed.models.most = reader->feed.most_depth > LEVELS_OF_LIBXML2 ? reader->feed.most_depth : LEVELS_OF_LIBXML2;
+    reader->feed.doubtful = take_doubt;
     reader->feed.most = sink->memory == 0 ? USUAL_MEMORY : sink->memory;
     reader->feed.most_attributes = sink->attributes == 0 ? USUAL_ATTRIBUTES : sink->attributes;
     reader->allowed = 1;

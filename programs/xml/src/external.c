@@ -110,7 +110,8 @@ static int open_file(const char *path, struct fault *fault) {
     return -1;
 }
 
-bool external_read(const struct external *entity, struct bytes *text, struct bytes *path, struct fault *fault) {
+bool external_read(const struct external *entity, struct bytes *text, struct bytes *path, bool *has_doubt, struct fault *fault) {
+    *has_doubt = false;
     if (entity->uri == NULL || !find(entity->public, entity->uri, path)) {
         return fails(fault, FAULT_OUTSIDE, "nothing is fetched");
     }
@@ -129,6 +130,7 @@ bool external_read(const struct external *entity, struct bytes *text, struct byt
     if (is_good && decoding.fault.kind != FAULT_NONE) {
         is_good = fails(fault, decoding.fault.kind, bytes_text(&decoding.fault.what));
     }
+    *has_doubt = decoding.has_doubt;
     decoding_free(&decoding);
     return is_good && !path->failed;
 }

@@ -26,6 +26,7 @@ void feed_open(struct feed *feed, const struct byte_source *source, struct fault
     feed->place = (struct place){1, 1};
     feed->since = feed->place;
     feed->long_at = UINT64_MAX;
+    feed->doubt_at = UINT64_MAX;
 }
 
 void feed_close(struct feed *feed) {
@@ -275,6 +276,9 @@ static bool read_more(struct feed *feed) {
     } else {
         decoding_take(&feed->decoding, feed->room.data, length, &feed->text);
     }
+    if (feed->decoding.has_doubt && feed->doubt_at == UINT64_MAX) {
+        feed->doubt_at = feed->begin + feed->decoding.doubt_at;
+    }
     return true;
 }
 
@@ -443,6 +447,15 @@ static void give(struct feed *feed, char *bytes, size_t count) {
     }
 }
 
+/* Tells about the first code that other programs read otherwise, once libxml2 has it. */
+static void tell_doubt(struct feed *feed) {
+    if (feed->doubt_at < feed->begin + feed->given && !feed->has_told_doubt) {
+        const char *text = feed->text.data;
+        feed->has_told_doubt = true;
+        feed->doubtful(feed->context, counted(feed->place, text + (feed->place_at - feed->begin), text + (feed->doubt_at - feed->begin)));
+    }
+}
+
 /* libxml2 looks ahead in what it gets at once, so it gets all that it asks for unless the document ends. */
 int feed_read(void *context, char *bytes, int length) {
     struct feed *feed = context;
@@ -469,6 +482,7 @@ int feed_read(void *context, char *bytes, int length) {
         return 0;
     }
     give(feed, bytes, count);
+    tell_doubt(feed);
     stop_asking(feed);
     uint64_t markup = feed_markup(feed);
     check_tag(feed, markup);

@@ -58,6 +58,9 @@ struct feed {
     size_t kept;        /* the bytes that the receiver keeps, when it was asked last */
     void (*keep)(void *context);        /* is called before text that was read is forgotten */
     void (*before_read)(void *context); /* is called before more of the document is read, which may take long */
+    bool has_told_doubt;                /* about a code that other programs read otherwise. It is at .. */
+    uint64_t doubt_at;                  /* .. this offset; UINT64_MAX: there is none */
+    void (*doubtful)(void *context, struct place place); /* is called after libxml2 got the first such code */
     void (*marked)(void *context);      /* is called after libxml2 got the first mark for a control character */
     void *context;
 };

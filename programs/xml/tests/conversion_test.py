@@ -1,4 +1,5 @@
 """Tests of the conversion in C, on `xml2pyx`: what is in the PYX, what is outside the profile, and that the converter in Python does the same."""
+import contextlib
 import io
 import os
 import subprocess
@@ -25,6 +26,17 @@ def by_converter(data):
         reported.append(f"d.xml:{fault.line}:{fault.column}: {fault.what}")
         status = 2
     return (b"".join(lines), places) if status == 0 else None, reported, status
+
+
+def in_pieces(data):
+    """The PYX, what is reported, and the status of a document that comes byte by byte."""
+    with subprocess.Popen([XML2PYX, "-"], bufsize=0, stdin=subprocess.PIPE, stdout=subprocess.PIPE, stderr=subprocess.PIPE) as run:
+        for byte in data:
+            with contextlib.suppress(BrokenPipeError):
+                run.stdin.write(bytes([byte]))
+            time.sleep(0.0005)
+        out, errors = run.communicate()
+    return out, errors, run.returncode
 
 
 class Converted(InFolder):
@@ -117,16 +129,10 @@ class Conversion(Converted):
     def test_pieces_of_one_byte(self):
         for data in ("<?xml version='1.0'?><a x='1'>\u00e9<![CDATA[]]]]>&lt;</a>".encode(), "<a>\u20ac<b/></a>".encode("utf-16"),
                      '<?xml version="1.0" encoding="EUC-JP"?><a>\u3042</a>'.encode("euc-jp"), b"<a>\xe3\x81", b"<a>"):
-            with subprocess.Popen([XML2PYX, "-"], stdin=subprocess.PIPE, stdout=subprocess.PIPE, stderr=subprocess.PIPE) as run:
-                for byte in data:
-                    run.stdin.write(bytes([byte]))
-                    run.stdin.flush()
-                    time.sleep(0.0005)
-                out = run.communicate()[0]
+            out, _, status = in_pieces(data)
             self.write("d.xml", data)
             whole = subprocess.run([XML2PYX, self.folder / "d.xml"], capture_output=True, check=False)
-            self.assertEqual((out, run.returncode) if whole.returncode == 0 else run.returncode,
-                             (whole.stdout, whole.returncode) if whole.returncode == 0 else whole.returncode)
+            self.assertEqual((out, status) if whole.returncode == 0 else status, (whole.stdout, 0) if whole.returncode == 0 else whole.returncode)
 
 
 class Encodings(Converted):
@@ -163,17 +169,126 @@ class Encodings(Converted):
                 self.assertEqual((row, column, what), (2, 6, "malformed XML: bytes that are no character of the encoding"))
 
     def test_bytes_that_are_read_in_two_ways(self):
-        declared = '<?xml version="1.0" encoding="{}"?><a>'
         for text in (b"\\", b"~", b"x" * 100_000 + b"\\"):
-            found = self.fault(declared.format("SHIFT_JISX0213").encode() + text + b"</a>")[2]
+            found = self.fault(b'<?xml version="1.0" encoding="ISO646-JP"?><a>' + text + b"</a>")[2]
             self.assertEqual(found, "a character that programs read in different ways in this encoding: outside the profile")
-        for name, text in (("Big5", b"\xc8\x40"), ("GBK", b"\xfe\x50"), ("GB18030", b"\xfe\x51"), ("GB18030", b"\x82\x35\x90\x37")):
-            found = self.fault(declared.format(name).encode() + text + b"</a>")[2]
-            self.assertEqual(found, "a character that programs read in different ways in this encoding: outside the profile", name)
         for name in ("Shift_JIS", "shift-jis", "SJIS", "MS_Kanji", "csShiftJIS"):
             given, wanted = b"\x83\x5c\\~\xb1" * 20_000, "\u30bd\\\\~\uff71" * 20_000
-            out = self.pyx(declared.format(name).encode() + given + b"</a>").decode()
+            out = self.pyx(f'<?xml version="1.0" encoding="{name}"?><a>'.encode() + given + b"</a>").decode()
             self.assertEqual("".join(line[1:] for line in out.split("\n") if line[:1] == "-"), wanted, name)
+
+    def test_the_bytes_of_escapes_come_apart(self):
+        for name, text in (("ISO-2022-JP", b"\x1b$B0!\x1b(I1\x0e2\x0f\x1b(J\\\x1b(B"), ("ISO-2022-CN", b"\x1b$)A\x0e0!\x1b$)GD!\x0f\x1bN!!\x1bO!!x"),
+                           ("ISO-2022-KR", b"\x1b$)C\x0e0!\xb0\xa1\x0fx"), ("ISO-2022-JP", b"\x1b$B0"), ("ISO-2022-CN", b"\x1b$)"), ("ISO-2022-CN", b"\x1bN!"),
+                           ("ISO-2022-JP", b"\x1b$B\xb0\xa1")):
+            data = f'<?xml version="1.0" encoding="{name}"?><a>'.encode() + text * 2 + b"</a>"
+            whole, (out, _, status) = self.converted(data), in_pieces(data)
+            self.assertEqual((out if status == 0 else b"", status), (whole[0] if status == 0 else b"", whole[3]), text)
+
+
+class Doubts(Converted):
+    """Codes that are read as Java reads them, and that other programs read otherwise: a note, once for a document, at the first one."""
+
+    WORDS = "note: a code of this encoding is read as Java reads it; other programs read another character, or none"
+    # of each kind: the encoding, a code, its character, and codes beside it that have no note
+    CODES = (("GBK", b"\xfe\x50", "\ue815", b"\xb0\xfe\x50\xaa\xa1"), ("GBK", b"\xa2\xab", "\ue766", b"\xa2\xaa\xa2\xb1"),
+             ("GB18030", b"\xfe\x51", "\ue816", b"\xb0\xfe\x51\xfe\x50"), ("GB18030", b"\x82\x35\x90\x37", "\ue81e", b"\x82\x35\x90\x36"),
+             ("GB18030", b"\x84\x31\x82\x36", "\ue78d", b"\x84\x31\x82\x35"), ("X0201", b"\\", "\\", b"\xb1|"), ("X0201", b"~", "~", b"}\xdf"),
+             ("SHIFT_JISX0213", b"\\", "\\", b"\x83\x5c"), ("ShiftJISX0213", b"~", "~", b"\xb1"), ("JOHAB", b"\\", "\\", b"\x88\x61"),
+             ("ISO-2022-JP", b"\x1b(I\n\x1b(B", "\uff4a", b"\x1b(I1\x1b(B\x1b(J\\\x1b(B"), ("ISO-2022-CN", b"\xe9", "\u00e9", b"\x1b$)G\x0eD!\x0f"),
+             ("ISO-2022-KR", b"\xe9", "\u00e9", b"\x1b$)C\x0e0!\x0f"),
+             ("ISO-2022-CN", b"\x1b$)G\x1b$*H\x0eD!\x0f", "\u6479", b"\x1b$)A\x0e0!\x1bN!!\x0f"))
+
+    @staticmethod
+    def document(name, *parts):
+        return f'<?xml version="1.0" encoding="{name}"?>'.encode() + b"".join(parts)
+
+    def text(self, out):
+        return "".join(line[1:] for line in out.decode().split("\n") if line[:1] == "-").replace("\\\\", "\\")
+
+    def test_each_kind(self):
+        for name, code, character, beside in self.CODES:
+            with self.subTest(name=name, code=code):
+                out, _, reported, status = self.converted(self.document(name, b"\r\n<a>\r\n<b/>", beside, b"\r<c/>", code, code, b"</a>"))
+                self.assertEqual((reported, status), ([f"d.xml:4:5: {self.WORDS}"], 0))
+                self.assertEqual(self.text(out)[-2:], 2 * character)
+                self.pyx(self.document(name, b"<a>", beside, b"</a>"))
+
+    def test_everywhere_in_a_document(self):
+        code, name = b"\xfe\x50", "GBK"
+        for data, place in ((b"<a x='" + code + b"'/>", (1, 43)), (b"<a/>\n<!--" + code + b"-->", (2, 5)), (b"<?p " + code + b"?><a/>", (1, 41)),
+                            (b"<!DOCTYPE a [<!ENTITY e '" + code + b"'>]><a/>", (1, 62)), (b"<a>" + b"<b/>\n" * 90_000 + code + b"</a>", (90_001, 1)),
+                            (b"<a>" + b"\xb0\xa1" * 70_000 + code + b"</a>", (1, 70_040)), (b"<!--" + b"x\n" * 900_000 + code + b"--><a/>", (900_001, 1))):
+            with self.subTest(data=data[:60]):
+                self.assertEqual(self.converted(self.document(name, data))[2:], ([f"d.xml:{place[0]}:{place[1]}: {self.WORDS}"], 0))
+
+    def test_small_pieces(self):
+        for name, code, _, beside in self.CODES:
+            data = self.document(name, b"<a>\r\n<b/>", beside, code, b"</a>")
+            with self.subTest(name=name, code=code):
+                whole = self.converted(data)
+                out, errors, status = in_pieces(data)
+                self.assertEqual((out, [errors.decode().replace("-:", "d.xml:", 1).rstrip("\n")], status), (whole[0], whole[2], 0))
+
+    def test_a_fault_before_the_code(self):
+        found = self.converted(self.document("GBK", b"<a>\xff</a>\xfe\x50"))
+        self.assertEqual((found[2], found[3]), (["d.xml:1:40: malformed XML: bytes that are no character of the encoding"], 2))
+
+    def test_an_external_entity(self):
+        self.write("e.xml", self.document("GBK", b"\xfe\x50").replace(b' version="1.0"', b""))
+        self.write("d.xml", '<!DOCTYPE a [<!ENTITY e SYSTEM "e.xml">]>\n<a>&e;&e;</a>')
+        run = subprocess.run([XML2PYX, "--dtd", "d.xml"], cwd=self.folder, capture_output=True, check=False)
+        self.assertEqual((run.stdout.decode(), run.stderr.decode()), ("(a\n-\ue815\ue815\n)a\n", f"d.xml:2:4: {self.WORDS}\n"))
+
+
+class Names(Converted):
+    """The names of encodings that Xerces 2.12 knows, in its map from names of IANA to those of Java."""
+
+    ASCII = """
+    ANSI_X3.4-1968 ANSI_X3.4-1986 ARABIC ASCII ASMO-708 BIG5 CCSID00858 CP-AR CP-GR CP-IS CP00858 CP367 CP437 CP775 CP819 CP850 CP852 CP855 CP857 CP860 CP861
+    CP862 CP863 CP864 CP865 CP866 CP868 CP869 CP936 CSASCII CSBIG5 CSEUCKR CSEUCPKDFMTJAPANESE CSGB2312 CSIBM855 CSIBM857 CSIBM860 CSIBM861 CSIBM863 CSIBM864
+    CSIBM865 CSIBM866 CSIBM868 CSIBM869 CSISO13JISC6220JP CSISO2022JP CSISO2022KR CSISOLATIN1 CSISOLATIN2 CSISOLATIN3 CSISOLATIN4 CSISOLATIN5 CSISOLATINARABIC
+    CSISOLATINCYRILLIC CSISOLATINGREEK CSISOLATINHEBREW CSKOI8R CSKSC56011987 CSPC775BALTIC CSPC850MULTILINGUAL CSPC862LATINHEBREW CSPC8CODEPAGE437 CSPCP852
+    CSSHIFTJIS CSWINDOWS31J CYRILLIC ECMA-114 ECMA-118 ELOT_928 EUC-JP EUC-KR EXTENDED_UNIX_CODE_PACKED_FORMAT_FOR_JAPANESE GB18030 GB2312 GBK GREEK GREEK8
+    HEBREW IBM-367 IBM-437 IBM-775 IBM-819 IBM-850 IBM-852 IBM-855 IBM-857 IBM-858 IBM-860 IBM-861 IBM-862 IBM-863 IBM-864 IBM-865 IBM-866 IBM-868 IBM-869
+    IBM00858 IBM367 IBM437 IBM775 IBM819 IBM850 IBM852 IBM855 IBM857 IBM860 IBM861 IBM862 IBM863 IBM864 IBM865 IBM866 IBM868 IBM869 ISO-2022-CN ISO-2022-JP
+    ISO-2022-KR ISO-8859-1 ISO-8859-13 ISO-8859-15 ISO-8859-2 ISO-8859-3 ISO-8859-4 ISO-8859-5 ISO-8859-6 ISO-8859-7 ISO-8859-8 ISO-8859-8-I ISO-8859-9
+    ISO-IR-100 ISO-IR-101 ISO-IR-109 ISO-IR-110 ISO-IR-126 ISO-IR-127 ISO-IR-138 ISO-IR-144 ISO-IR-148 ISO-IR-149 ISO-IR-6 ISO646-US ISO_8859-1 ISO_8859-15
+    ISO_8859-2 ISO_8859-3 ISO_8859-4 ISO_8859-5 ISO_8859-6 ISO_8859-7 ISO_8859-8 ISO_8859-9 KOI8-R KOREAN KSC_5601 KS_C_5601-1987 KS_C_5601-1989 L1 L2 L3 L4
+    L5 LATIN-9 LATIN1 LATIN2 LATIN3 LATIN4 LATIN5 MS936 MS_KANJI SHIFT_JIS TIS-620 US US-ASCII UTF-8 WINDOWS-1250 WINDOWS-1251 WINDOWS-1252 WINDOWS-1253
+    WINDOWS-1254 WINDOWS-1255 WINDOWS-1256 WINDOWS-1257 WINDOWS-1258 WINDOWS-31J WINDOWS-936 X0201
+    """
+    EBCDIC = """
+    CCSID01140 CCSID01141 CCSID01142 CCSID01143 CCSID01144 CCSID01145 CCSID01146 CCSID01147 CCSID01148 CCSID01149 CP01140 CP01141 CP01142 CP01143 CP01144
+    CP01145 CP01146 CP01147 CP01148 CP01149 CP037 CP1026 CP1047 CP273 CP277 CP278 CP280 CP284 CP285 CP297 CP420 CP424 CP500 CP870 CP871 CP918 CSIBM037
+    CSIBM1026 CSIBM273 CSIBM277 CSIBM278 CSIBM280 CSIBM284 CSIBM285 CSIBM297 CSIBM420 CSIBM424 CSIBM500 CSIBM870 CSIBM871 CSIBM918 EBCDIC-CP-AR1 EBCDIC-CP-AR2
+    EBCDIC-CP-BE EBCDIC-CP-CA EBCDIC-CP-CH EBCDIC-CP-DK EBCDIC-CP-ES EBCDIC-CP-FI EBCDIC-CP-FR EBCDIC-CP-GB EBCDIC-CP-HE EBCDIC-CP-IS EBCDIC-CP-IT
+    EBCDIC-CP-NL EBCDIC-CP-NO EBCDIC-CP-ROECE EBCDIC-CP-SE EBCDIC-CP-US EBCDIC-CP-WT EBCDIC-CP-YU IBM-1026 IBM-1047 IBM-1140 IBM-1141 IBM-1142 IBM-1143
+    IBM-1144 IBM-1145 IBM-1146 IBM-1147 IBM-1148 IBM-1149 IBM-273 IBM-277 IBM-278 IBM-280 IBM-284 IBM-285 IBM-297 IBM-37 IBM-420 IBM-424 IBM-500 IBM-870
+    IBM-871 IBM-918 IBM01140 IBM01141 IBM01142 IBM01143 IBM01144 IBM01145 IBM01146 IBM01147 IBM01148 IBM01149 IBM037 IBM1026 IBM1047 IBM273 IBM277 IBM278
+    IBM280 IBM284 IBM285 IBM297 IBM420 IBM424 IBM500 IBM870 IBM871 IBM918
+    """
+    # Nothing that is well formed can be in these: the two-byte sets of JIS have no `<`, and no document whose declaration is in IBM290 is known as EBCDIC
+    NO_DOCUMENTS = "CSISO159JISX02121990 CSISO87JISX0208 ISO-IR-159 ISO-IR-87 X0208 X0212 CP290 CSIBM290 EBCDIC-JP-KANA IBM-290 IBM290"
+
+    def served(self, names, encoding):
+        wrong = []
+        for name in names.split():
+            out, _, reported, _ = self.converted(f"<?xml version='1.0' encoding='{name}'?><a>x</a>".encode(encoding))
+            wrong += [] if out == b"(a\n-x\n)a\n" and not reported else [(name, reported)]
+        return wrong
+
+    def test_all_names_are_served(self):
+        self.assertEqual(self.served(self.ASCII, "ascii") + self.served(self.EBCDIC, "cp037"), [])
+        self.assertEqual(self.served("UTF-16 UTF-16LE", "utf-16le") + self.served("UTF-16BE", "utf-16be"), [])
+
+    def test_the_other_names(self):
+        for name in self.NO_DOCUMENTS.split():
+            self.assertEqual(self.fault(f"<?xml version='1.0' encoding='{name}'?><a>x</a>")[:2], (1, 1), name)
+
+
+class LineEnds(Converted):
+    """Line ends and marks of encodings."""
 
     def test_line_ends_of_ebcdic(self):
         for name, wanted in (("IBM037", b"(a\n-\\n\\n\\n\n)a\n"), ("IBM1047", b"(a\n-\\n\xc2\x85\\n\n)a\n")):
