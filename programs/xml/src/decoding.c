@@ -15,6 +15,8 @@ static const char NEXT_LINE_BEGINS = '\xC2'; /* in UTF-8 */
 
 const char read_as_java[] = "a code of this encoding is read as Java reads it; other programs read another character, or none";
 
+static const char not_as_declared[] = "malformed XML: the document is not in the encoding that its declaration names";
+
 static void refuse(struct decoding *decoding, enum fault_kind kind, const char *what) {
     fault_set(&decoding->fault, kind, (struct place){0, 0}, "%s", what);
 }
@@ -69,13 +71,40 @@ static void not_served(struct decoding *decoding, struct span encoding) {
     fault_set(&decoding->fault, FAULT_OUTSIDE, (struct place){0, 0}, "the encoding '%.*s' is not served", (int)encoding.length, encoding.data);
 }
 
+/* Whether a declaration is the same in two encodings. A line end of one may be a next line in the other. */
+static bool is_same(struct span declaration, struct span other) {
+    size_t at = 0;
+    for (size_t position = 0; position < declaration.length; position++, at++) {
+        bool is_next_line = declaration.data[position] == '\n' && at + 1 < other.length && other.data[at] == NEXT_LINE_BEGINS;
+        at += is_next_line;
+        if (!is_next_line && (at >= other.length || other.data[at] != declaration.data[position])) {
+            return false;
+        }
+    }
+    return at == other.length;
+}
+
+/* Refuses a document whose XML declaration, which was read as cp037, is not the same in the encoding that it names. */
+static void check_declared(struct decoding *decoding, const char *encoding, struct span declaration) {
+    struct transcoder transcoder;
+    struct bytes text = NO_BYTES;
+    bool is_open = transcoder_open_ebcdic(&transcoder, encoding);
+    if (!is_open || transcoder_add(&transcoder, decoding->first.data, declaration.length, &text) == DECODED_NO_MEMORY) {
+        out_of_memory(decoding);
+    } else if (!is_same(declaration, (struct span){text.data, text.length})) {
+        refuse(decoding, FAULT_MALFORMED, not_as_declared);
+    }
+    transcoder_close(&transcoder);
+    bytes_free(&text);
+}
+
 /* Opens the transcoder for the encoding that the document declares. The bytes of its declaration are ASCII, or EBCDIC. */
-static void open_declared(struct decoding *decoding, struct span encoding) {
+static void open_declared(struct decoding *decoding, struct span encoding, struct span declaration) {
     char name[64];
     static const char *const wide[] = {"utf-16", "utf-16le", "utf-16be", "iso-10646-ucs-2"};
     for (size_t at = 0; at < sizeof wide / sizeof *wide; at++) {
         if (is_named(encoding, wide[at])) {
-            refuse(decoding, FAULT_MALFORMED, "malformed XML: the document is not in the encoding that its declaration names");
+            refuse(decoding, FAULT_MALFORMED, not_as_declared);
             return;
         }
     }
@@ -87,7 +116,11 @@ static void open_declared(struct decoding *decoding, struct span encoding) {
     name[encoding.length] = '\0';
     bool is_open = decoding->family == FAMILY_EBCDIC ? transcoder_open_ebcdic(&decoding->transcoder, name) : transcoder_open(&decoding->transcoder, name);
     decoding->is_transcoded = is_open;
-    if (!is_open) {
+    if (is_open && decoding->family == FAMILY_EBCDIC) {
+        check_declared(decoding, name, declaration);
+    } else if (decoding->transcoder.moves_ascii) {
+        refuse(decoding, FAULT_MALFORMED, not_as_declared);
+    } else if (!is_open) {
         not_served(decoding, encoding);
     }
 }
@@ -97,27 +130,28 @@ static bool is_1_1(const struct xml_declaration *declaration) {
 }
 
 /* Sets the encoding, after the declaration was read. UTF-16 and UTF-32 have a byte order mark, or the declaration names them. */
-static void set_encoding(struct decoding *decoding, const struct xml_declaration *declaration, bool is_marked) {
+static void set_encoding(struct decoding *decoding, const struct xml_declaration *declaration, const char *text, bool is_marked) {
     struct span encoding = declaration->encoding;
+    struct span whole = {text, declaration->length};
     const char *wide = encoding_of(decoding->family);
     if (declaration->wrong != NULL) {
         fault_set(&decoding->fault, FAULT_MALFORMED, (struct place){0, 0}, "malformed XML: %s", declaration->wrong);
     } else if (decoding->is_external && !decoding->is_1_1 && is_1_1(declaration)) {
         refuse(decoding, FAULT_OUTSIDE, "it is XML 1.1, and the document is not");
     } else if (decoding->family == FAMILY_EBCDIC) {
-        open_declared(decoding, encoding.data == NULL ? (struct span){"cp037", 5} : encoding);
+        open_declared(decoding, encoding.data == NULL ? (struct span){"cp037", 5} : encoding, whole);
     } else if (wide != NULL && encoding.data == NULL && !is_marked) {
         fault_set(&decoding->fault, FAULT_MALFORMED, (struct place){0, 0},
                   "malformed XML: %.6s without a byte order mark, which its declaration does not name", wide);
     } else if (wide != NULL && encoding.data != NULL && !fits_wide(decoding->family, encoding)) {
-        refuse(decoding, FAULT_MALFORMED, "malformed XML: the document is not in the encoding that its declaration names");
+        refuse(decoding, FAULT_MALFORMED, not_as_declared);
     } else if (wide != NULL) {
         decoding->is_transcoded = transcoder_open_any(&decoding->transcoder, wide);
         if (!decoding->is_transcoded) {
             not_served(decoding, (struct span){wide, strlen(wide)});
         }
     } else if (encoding.data != NULL && !is_utf_8_name(encoding)) {
-        open_declared(decoding, encoding); /* it counts more than a byte order mark of UTF-8, as for jing */
+        open_declared(decoding, encoding, whole); /* it counts more than a byte order mark of UTF-8, as for jing */
     }
 }
 
@@ -158,7 +192,7 @@ static void find_encoding(struct decoding *decoding, bool is_end) {
         struct xml_declaration declaration = xml_declaration_of((struct span){text.data, text.length}, decoding->is_external);
         decoding->is_known = is_end || !declaration.is_there || declaration.is_whole;
         if (decoding->is_known) {
-            set_encoding(decoding, &declaration, mark > 0);
+            set_encoding(decoding, &declaration, text.data, mark > 0);
             decoding->is_1_1 |= is_1_1(&declaration);
             decoding->dropped = decoding->is_external ? declaration.length : 0;
             bytes_cut_front(&decoding->first, mark);

@@ -88,7 +88,10 @@ bool transcoder_open(struct transcoder *transcoder, const char *encoding) {
     if (!transcoder_open_any(transcoder, encoding)) {
         return false;
     }
-    return keeps_ascii(transcoder);
+    bool is_kept = keeps_ascii(transcoder);
+    char text[16];
+    transcoder->moves_ascii = !is_kept && alone(transcoder->descriptor, '0', text, sizeof text) > 0 && text[0] != '0';
+    return is_kept;
 }
 
 bool transcoder_open_ebcdic(struct transcoder *transcoder, const char *encoding) {

@@ -22,6 +22,7 @@ struct transcoder {
     const struct correction *corrections; /* of the table. NULL: there are none */
     bool composes;                        /* whether iconv would compose letters with the marks behind them */
     bool replaces_ascii;                  /* whether the byte of `\` or of `~` is another character in this table */
+    bool moves_ascii;                     /* whether the byte of a digit is another character in this table */
     bool is_ebcdic;                       /* its bytes for line feeds and next lines are as in Java: both are line feeds, but for one table */
     bool has_escapes;                     /* its codes are found by these escapes */
     struct iso_2022 escapes;

@@ -154,7 +154,7 @@ class Encodings(Converted):
                 self.assert_same(served, plain, encoding)
 
     def test_not_served(self):
-        for encoding in ("bogus", "UTF-7", "cp037", "hz", "base64", "raw_unicode_escape", "utf-8-sig", "wchar_t", "char", "UTF-32", "UCS-2"):
+        for encoding in ("bogus", "UTF-7", "hz", "base64", "raw_unicode_escape", "utf-8-sig", "wchar_t", "char", "UTF-32", "UCS-2"):
             with self.subTest(encoding=encoding):
                 found = self.fault(f'<?xml version="1.0" encoding="{encoding}"?><a>~{{+AGE-</a>')
                 self.assertEqual(found, (1, 1, f"the encoding '{encoding}' is not served"))
@@ -167,6 +167,13 @@ class Encodings(Converted):
             with self.subTest(encoding=encoding, text=text):
                 row, column, what = self.fault(data)
                 self.assertEqual((row, column, what), (2, 6, "malformed XML: bytes that are no character of the encoding"))
+
+    def test_a_declaration_in_another_encoding(self):
+        what = (1, 1, "malformed XML: the document is not in the encoding that its declaration names")
+        self.assertEqual(self.fault(b'<?xml version="1.0" encoding="cp037"?>\x4c\x81\x61\x6e'), what)
+        for name in ("IBM290", "IBM1026", "CP930"):
+            self.assertEqual(self.fault(f'<?xml version="1.0" encoding="{name}"?><a/>'.encode("cp037")), what, name)
+        self.assertEqual(self.pyx("<?xml version='1.0' encoding='IBM1026'?><a/>".encode("cp037")), b"(a\n)a\n")
 
     def test_bytes_that_are_read_in_two_ways(self):
         for text in (b"\\", b"~", b"x" * 100_000 + b"\\"):
@@ -284,7 +291,8 @@ class Names(Converted):
 
     def test_the_other_names(self):
         for name in self.NO_DOCUMENTS.split():
-            self.assertEqual(self.fault(f"<?xml version='1.0' encoding='{name}'?><a>x</a>")[:2], (1, 1), name)
+            for encoding in ("ascii", "cp037"):
+                self.assertEqual(self.fault(f"<?xml version='1.0' encoding='{name}'?><a>x</a>".encode(encoding))[:2], (1, 1), name)
 
 
 class LineEnds(Converted):
