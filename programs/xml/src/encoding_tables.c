@@ -125,6 +125,7 @@ unsigned encoding_number(const char *table) {
         unsigned number;
     } named[] = {{"big5", BIG5},
                  {"euc-jp", EUC_JP},
+                 {"euc-kr", EUC_KR},
                  {"gb18030", GB18030},
                  {"gbk", GBK},
                  {"iso-2022-cn", ISO_2022_CN},
@@ -158,6 +159,10 @@ const char *encoding_part(unsigned number) {
 
 bool encoding_is_composed(unsigned number) {
     return number == HEBREW || number == VIETNAMESE;
+}
+
+bool encoding_has_no_controls(unsigned number) {
+    return number == EUC_JP || number == EUC_KR;
 }
 
 bool encoding_has_bar(unsigned number) {

@@ -6,7 +6,7 @@
 #include <stddef.h>
 
 /* Numbers of tables that are not of IBM or Microsoft, which have less digits. */
-enum { BIG5 = 1000000, EUC_JP, GB18030, GBK, ISO_2022_CN, ISO_2022_JP, ISO_2022_KR, JIS_X0201, SHIFT_JIS, SHIFT_JISX0213 };
+enum { BIG5 = 1000000, EUC_JP, EUC_KR, GB18030, GBK, ISO_2022_CN, ISO_2022_JP, ISO_2022_KR, JIS_X0201, SHIFT_JIS, SHIFT_JISX0213 };
 
 /* Codes of a table whose characters are not those of iconv. A code is a number that has the bytes of a character as its digits. The codes are those from the
  * first to the last one whose last byte is from that of the first to that of the last one, and is not 0x7F. */
@@ -29,6 +29,9 @@ const char *encoding_part(unsigned number);
 
 /* Whether iconv composes letters of the table with the marks behind them. A document has them apart, and so have other programs. */
 bool encoding_is_composed(unsigned number);
+
+/* Whether iconv reads bytes from 0x80 to 0x9F as control characters, which no other program has there. */
+bool encoding_has_no_controls(unsigned number);
 
 /* Whether iconv reads the dash of JIS X 0208 as a bar, U+2015. */
 bool encoding_has_bar(unsigned number);

@@ -9,6 +9,7 @@ enum {
     ROOM = 16384,
     MOST_TOGETHER = 4096,     /* bytes that iconv gets at once. Their characters have room */
     LONGEST_CHARACTER = 64,
+    FIRST_BEHIND_CONTROLS = 0xA0,
     OPEN_SYSTEMS = 1047       /* the number of the table of EBCDIC whose line feed is a line feed */
 };
 
@@ -276,6 +277,15 @@ static void put_dashes(struct bytes *text, size_t begin) {
     }
 }
 
+/* Takes the control characters that a byte alone gives for none, from `begin` on. */
+static void drop_controls(struct bytes *text, size_t begin) {
+    for (size_t at = begin; at + 1 < text->length; at++) {
+        if (text->data[at] == '\xC2' && (unsigned char)text->data[at + 1] < FIRST_BEHIND_CONTROLS) {
+            text->data[at] = NO_CHARACTER;
+        }
+    }
+}
+
 /* What is to be said of the text from `begin` on. */
 static enum decoded decoded_from(struct transcoder *transcoder, struct bytes *text, size_t begin) {
     bool is_doubtful = false;
@@ -284,6 +294,9 @@ static enum decoded decoded_from(struct transcoder *transcoder, struct bytes *te
     }
     if (encoding_has_bar(transcoder->number)) {
         put_dashes(text, begin);
+    }
+    if (encoding_has_no_controls(transcoder->number)) {
+        drop_controls(text, begin);
     }
     if (!transcoder->replaces_ascii) {
         return DECODED;

@@ -162,7 +162,8 @@ class Encodings(Converted):
         self.assertEqual(found, "malformed XML: the document is not in the encoding that its declaration names")
 
     def test_what_is_not_of_the_encoding(self):
-        for encoding, text in (("EUC-JP", b"\xa4"), ("EUC-JP", b"\xff"), ("Shift_JIS", b"\x82"), ("GB18030", b"\x81\x20"), ("windows-1252", b"\x81")):
+        for encoding, text in (("EUC-JP", b"\xa4"), ("EUC-JP", b"\xff"), ("EUC-JP", b"\x81"), ("EUC-KR", b"\x85"), ("Shift_JIS", b"\x82"),
+                               ("GB18030", b"\x81\x20"), ("windows-1252", b"\x81")):
             data = b'<?xml version="1.0" encoding="' + encoding.encode() + b'"?>\n<a>ab' + text + b"</a>"
             with self.subTest(encoding=encoding, text=text):
                 row, column, what = self.fault(data)
