@@ -42,7 +42,7 @@ hints="schema_asked schema_types schema_tree schema_grammars schema_words schema
 telling="finding expected scope declared near telling alone_schema contexts alone second_reading"
 merging="schema_walk schema_merging schema_merged_text"
 reading="paths schema_tokens annotation_names schema_annotations xml_names origins $rng catalogs schema_files schema_xml $merging"
-ids="text_table id_form id_types id_check schema_ids schema_controls schema_context"
+ids="text_table id_form id_types id_check schema_ids named_sets stand_ins schema_controls schema_context"
 judging="$reading $ids $hints options clause_page documents event_log library_calls judging $telling progress formats source_line report jobs"
 converting="$reading $ids schema_asked event_log library_calls judging $telling"
 

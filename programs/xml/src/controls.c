@@ -141,7 +141,8 @@ size_t unmark_controls(char *text, size_t length, enum mark_part *part) {
     return kept;
 }
 
-size_t spell_controls(char *text, size_t length) {
+/* Writes a delete and the letter in the place of each mark. Returns the new length. */
+static size_t spell_marks(char *text, size_t length) {
     size_t kept = 0;
     enum mark_part part = MARK_NONE;
     for (size_t at = 0; at < length; at++) {
@@ -156,10 +157,68 @@ size_t spell_controls(char *text, size_t length) {
     return kept;
 }
 
+/* Whether the text has a delete with this behind it. */
+static bool has_end(struct span text, const char *end) {
+    bool is_found = false;
+    for (size_t at = 0; at < text.length && !is_found; at++) {
+        is_found = text.data[at] == DELETE && begins((struct span){text.data + at + 1, text.length - at - 1}, end);
+    }
+    return is_found;
+}
+
+void spell_controls(struct bytes *text, size_t begin, const char *end) {
+    struct bytes plain = NO_BYTES;
+    enum mark_part part = MARK_NONE;
+    bytes_add(&plain, text->data + begin, text->length - begin);
+    plain.length = unmark_controls(plain.data, plain.length, &part);
+    struct span span = {plain.data, plain.length};
+    if (has_controls(span) || has_end(span, end)) {
+        text->length = begin + spell_marks(text->data + begin, text->length - begin);
+        bytes_add_byte(text, DELETE);
+        bytes_add_text(text, end);
+    } else {
+        text->length = begin;
+        bytes_add(text, plain.data, plain.length);
+    }
+    text->failed |= plain.failed;
+    bytes_free(&plain);
+}
+
 bool has_controls(struct span text) {
     bool is_found = false;
     for (size_t at = 0; at < text.length && !is_found; at++) {
         is_found = is_control((unsigned char)text.data[at]);
     }
     return is_found;
+}
+
+/* What stands in for the byte; NULL: it is no control character. */
+static const char *stand_in_of(const struct stand_ins *stand_ins, char byte) {
+    enum control_class class = byte < '\t' ? CONTROLS_BEFORE : byte < '\r' ? CONTROLS_BETWEEN : CONTROLS_BEHIND;
+    return is_control((unsigned char)byte) ? stand_ins->texts[class] : NULL;
+}
+
+bool have_stand_ins(const struct stand_ins *stand_ins, struct span text) {
+    bool have_all = true;
+    for (size_t at = 0; at < text.length && have_all; at++) {
+        const char *found = stand_in_of(stand_ins, text.data[at]);
+        have_all = found == NULL || *found != '\0';
+    }
+    return have_all;
+}
+
+size_t length_with(const struct stand_ins *stand_ins, struct span text) {
+    size_t length = 0;
+    for (size_t at = 0; at < text.length; at++) {
+        const char *found = stand_in_of(stand_ins, text.data[at]);
+        length += found == NULL ? 1 : strlen(found);
+    }
+    return length;
+}
+
+void add_with(const struct stand_ins *stand_ins, struct span text, struct bytes *to) {
+    for (size_t at = 0; at < text.length; at++) {
+        const char *found = stand_in_of(stand_ins, text.data[at]);
+        bytes_add(to, found == NULL ? text.data + at : found, found == NULL ? 1 : strlen(found));
+    }
 }

@@ -12,6 +12,15 @@
 
 enum { LONGEST_CONTROL = 64 /* bytes of a reference that is found; it may have zeros before its digits */ };
 
+/* The control characters before, between and behind tab, line feed and carriage return. A schema has none of them, and is XML 1.0, so no range in a `pattern`
+ * of it has one character of a class without the others. */
+enum control_class { CONTROLS_BEFORE, CONTROLS_BETWEEN, CONTROLS_BEHIND, CONTROL_CLASSES };
+
+/* What the library gets for each character of a class, since its texts are those of XML 1.0: a character in UTF-8, or nothing. */
+struct stand_ins {
+    char texts[CONTROL_CLASSES][5];
+};
+
 /* A search for references in a text, and how far it was handed to libxml2. Set it to zero before the first byte of a document or of a text of its DTD. */
 struct control_scan {
     char kind;       /* what is being read: the quote of a literal of a DTD, `-` of a comment, `?` of an instruction, `[` of a section; 0: none of these */
@@ -40,15 +49,21 @@ bool has_control_marks(struct span text);
 /* Writes characters in the place of their marks. `part` is what was read of a mark before. Returns the new length. */
 size_t unmark_controls(char *text, size_t length, enum mark_part *part);
 
-/* Does the same for a namespace, which is only compared with others: each character becomes a delete and its letter. So what the text spells is XML 1.0, is
- * another text for each namespace, and has a delete. */
-size_t spell_controls(char *text, size_t length);
+/* Writes the namespace from `begin` on, which has marks, without them. It is only compared with others. One with a control character is spelled in XML 1.0:
+ * each mark becomes a delete and its letter, and a delete and the `end` come behind all. One that has these two itself is spelled too. So each namespace
+ * has another text, and what has no delete and `end` together is what it was. */
+void spell_controls(struct bytes *text, size_t begin, const char *end);
 
 /* Whether a text without marks has a control character. */
 bool has_controls(struct span text);
 
-/* What the library gets for each of them, since its texts are those of XML 1.0: a character that has the same category and block, and that no datatype tells
- * from it unless the schema has it. */
-enum { INSTEAD_OF_CONTROL = 0x7F };
+/* Whether each control character of the text has a character that stands in for it. */
+bool have_stand_ins(const struct stand_ins *stand_ins, struct span text);
+
+/* The length of the text with these in the place of its control characters. */
+size_t length_with(const struct stand_ins *stand_ins, struct span text);
+
+/* Adds it, with these. */
+void add_with(const struct stand_ins *stand_ins, struct span text, struct bytes *to);
 
 #endif

@@ -254,8 +254,8 @@ static void keep_default(struct declarations *declarations, const xmlChar *eleme
     struct bytes unmarked = NO_BYTES;
     enum mark_part part = MARK_NONE;
     add_unmarked((struct span){(const char *)value, strlen((const char *)value)}, &unmarked);
-    if (declarations->feed->spells) {
-        unmarked.length = spell_controls(unmarked.data, unmarked.length);
+    if (declarations->feed->spelling != NULL) {
+        spell_controls(&unmarked, 0, declarations->feed->spelling);
     } else if (declarations->feed->decoding.is_1_1) {
         unmarked.length = unmark_controls(unmarked.data, unmarked.length, &part);
     }

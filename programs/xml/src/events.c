@@ -42,7 +42,6 @@ struct reader {
     bool is_unusual;     /* the next tag may be such a one, or elements may declare namespaces by default */
     bool is_empty;       /* the end of the last start tag is in it */
     bool has_marked_uri; /* a namespace had marks */
-    bool has_control;    /* the receiver was asked whether it takes control characters */
     uint64_t allowed; /* how many times what a tag usually may cost is allowed: it grows with the square of its attributes */
     size_t unasked;    /* the bytes of texts since the receiver was asked how much it keeps */
     uint64_t searched; /* how many open namespaces were looked at for names */
@@ -51,8 +50,6 @@ struct reader {
 };
 
 static const char control_character[] = "a control character by a reference, which XML 1.1 has: outside the profile";
-static const char control_in_namespace[] =
-    "a namespace with a control character of XML 1.1, and the schema has one with U+007F: outside the profile";
 
 /* The reader of this thread's document. libxml2 reports some errors without it. */
 static _Thread_local struct reader *current = NULL;
@@ -161,13 +158,10 @@ static struct position other_position(struct reader *reader, size_t length) {
 }
 
 /* Whether the receiver takes a text or value with a control character. False: there is a fault. */
-static bool takes_control(struct reader *reader, struct position position) {
-    if (!reader->has_control) {
-        const char *why = reader->sink.control == NULL ? control_character : reader->sink.control(reader->sink.context);
-        reader->has_control = true;
-        if (why != NULL) {
-            fault_set(reader->fault, FAULT_OUTSIDE, place_of(position), "%s", why);
-        }
+static bool takes_control(struct reader *reader, struct position position, struct span text) {
+    const char *why = reader->sink.control == NULL ? control_character : reader->sink.control(reader->sink.context, text);
+    if (why != NULL) {
+        fault_set(reader->fault, FAULT_OUTSIDE, place_of(position), "%s", why);
     }
     return is_good(reader);
 }
@@ -215,7 +209,7 @@ static void take_marked_text(void *context, const xmlChar *text, int size) {
         return;
     }
     span = (struct span){reader->piece.data, unmark_controls(reader->piece.data, span.length, &reader->part)};
-    if (span.length > 0 && (!has_controls(span) || takes_control(reader, position))) {
+    if (span.length > 0 && (!has_controls(span) || takes_control(reader, position, span))) {
         hand_text(reader, position, span, false);
     }
 }
@@ -269,8 +263,8 @@ static bool has_room(struct reader *reader, void **items, size_t count, size_t *
     return true;
 }
 
-/* Adds a value with blanks and control characters, or their spellings, in the place of their marks. False: it has no marks, and is not added. */
-static bool unmark(const struct reader *reader, struct span value, bool spells, struct bytes *to) {
+/* Adds a value with blanks and control characters, or their spelling, in the place of their marks. False: it has no marks, and is not added. */
+static bool unmark(const struct reader *reader, struct span value, const char *spelling, struct bytes *to) {
     bool has_blanks = reader->declarations.has_marks && has_blank_marks(value);
     bool is_marked = reader->feed.controls.has_marks && has_control_marks(value);
     size_t begin = to->length;
@@ -280,9 +274,10 @@ static bool unmark(const struct reader *reader, struct span value, bool spells, 
     } else if (is_marked) {
         bytes_add(to, value.data, value.length);
     }
-    if (is_marked && !to->failed) {
-        char *text = to->data + begin;
-        to->length = begin + (spells ? spell_controls(text, value.length) : unmark_controls(text, value.length, &part));
+    if (is_marked && spelling != NULL && !to->failed) {
+        spell_controls(to, begin, spelling);
+    } else if (is_marked && !to->failed) {
+        to->length = begin + unmark_controls(to->data + begin, to->length - begin, &part);
     }
     return has_blanks || is_marked;
 }
@@ -290,7 +285,7 @@ static bool unmark(const struct reader *reader, struct span value, bool spells, 
 /* The URI of a namespace without marks, in the dictionary. */
 static const xmlChar *unmarked_uri(struct reader *reader, const xmlChar *uri) {
     struct bytes text = NO_BYTES;
-    if (!unmark(reader, span_of(uri), reader->feed.spells, &text)) {
+    if (!unmark(reader, span_of(uri), reader->feed.spelling, &text)) {
         return uri;
     }
     reader->has_marked_uri = true;
@@ -408,12 +403,12 @@ static void clear_values(struct reader *reader, int count, const xmlChar **attri
 static struct span unmarked(struct reader *reader, struct span value) {
     const struct bytes *values = &reader->values;
     size_t begin = values->length;
-    if (!unmark(reader, value, false, &reader->values)) {
+    if (!unmark(reader, value, NULL, &reader->values)) {
         return value;
     }
     struct span found = {values->data + begin, values->length - begin};
     if (has_controls(found)) {
-        takes_control(reader, reader->start.position);
+        takes_control(reader, reader->start.position, found);
     }
     return found;
 }
@@ -529,7 +524,7 @@ static bool has_control_in_namespace(const struct start_event *start) {
 /* Reads the tag by the rules of XML 1.1. */
 static void read_1_1(struct reader *reader, struct start_event *start) {
     if (reader->feed.controls.has_marks && has_control_in_namespace(start)) {
-        fault_set(reader->fault, FAULT_OUTSIDE, place_of(start->position), "%s", reader->sink.spells == NULL ? control_character : control_in_namespace);
+        fault_set(reader->fault, FAULT_OUTSIDE, place_of(start->position), "%s", control_character);
     }
     take_withdrawn(reader, start);
 }
@@ -1122,7 +1117,7 @@ static void take_doubt(void *context, struct place place) {
 static void use_marks(void *context) {
     struct reader *reader = context;
     xmlSAXHandler *handlers = reader->feed.parser->sax;
-    reader->feed.spells = reader->sink.spells != NULL && reader->sink.spells(reader->sink.context);
+    reader->feed.spelling = reader->sink.spelling == NULL ? NULL : reader->sink.spelling(reader->sink.context);
     handlers->characters = take_marked_text;
     handlers->ignorableWhitespace = take_marked_text;
     handlers->cdataBlock = take_marked_text;

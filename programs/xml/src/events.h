@@ -61,11 +61,11 @@ struct event_sink {
     void (*flush)(void *context); /* comes before more of the document is read, which may take long; NULL: not wanted */
     void (*keep)(void *context);  /* comes before names, raw texts and places of earlier events vanish, also after a fault; NULL: not wanted */
     size_t (*held)(const void *context); /* how many bytes it keeps of the document; NULL: none that grow with it */
-    /* Comes before the first text or attribute with a control character of XML 1.1. Returns why the document is refused; NULL: it is not. NULL: each is. */
-    const char *(*control)(void *context);
-    /* Comes before the first of them, or U+007F by a reference, anywhere in the document: whether namespaces with them may be other ones with U+007F, since the
-     * receiver has none. If not, or if it is NULL, a namespace with a control character is refused. */
-    bool (*spells)(void *context);
+    /* Comes before each text and value with a control character of XML 1.1. Returns why the document is refused; NULL: it is not. NULL: each is. */
+    const char *(*control)(void *context, struct span text);
+    /* Comes before the first of them, or U+007F by a reference, anywhere in the document. Returns the end for namespaces with control characters
+     * (spell_controls), since the receiver has none of these. If it is NULL, or returns NULL, such a namespace is refused. */
+    const char *(*spelling)(void *context);
     void *context;
     bool checks_names; /* a tag that breaks Namespaces in XML is a fault, with its clause */
     bool reads_prefixes; /* prefixes in values have a meaning for it, so a tag that takes one back is a fault */

@@ -546,22 +546,23 @@ static size_t held(const void *context) {
     return id_check_held(&judge->ids) + scope_held(&judge->scope) + text;
 }
 
-/* Whether the schema has no namespace like those that the library gets for the ones with control characters. */
-static bool spells(void *context) {
+/* The end that the library gets for namespaces with control characters. */
+static const char *spelling(void *context) {
     struct judging *judging = context;
     struct judge *judge = judging->judge;
     if (!judge->controls.is_known && !schema_controls_read(&judge->asked, &judge->controls)) {
         out_of_memory(judging);
     }
-    return !judge->controls.has_in_spaces;
+    return judge->controls.spelling[0] == '\0' ? NULL : judge->controls.spelling;
 }
 
 /* Lets the library get other characters for control characters, unless the schema may tell them apart. */
-static const char *take_control(void *context) {
+static const char *take_control(void *context, struct span text) {
     struct judge *judge = ((struct judging *)context)->judge;
-    judge->room.has_controls = true;
-    return judge->controls.tells_texts ? "a control character by a reference, and the schema has a pattern or value that may be about it: outside the profile"
-                                       : NULL;
+    judge->room.stand_ins = &judge->controls.stand_ins;
+    return have_stand_ins(judge->room.stand_ins, text)
+               ? NULL
+               : "a control character by a reference, and the schema has a pattern or value that may be about it: outside the profile";
 }
 
 static void take_note(void *context, struct place place, const char *what) {
@@ -715,7 +716,7 @@ static void read_source(struct judging *judging, const struct byte_source *sourc
                               .keep = keep,
                               .held = held,
                               .control = take_control,
-                              .spells = spells,
+                              .spelling = spelling,
                               .context = judging,
                               .checks_names = true,
                               .depth = shared->depth,
@@ -749,7 +750,7 @@ static void add_hints(struct judging *judging, const char *name) {
 /* Forgets what was kept of another document. */
 static void forget(struct judge *judge) {
     judge->found_number = 0;
-    judge->room.has_controls = false;
+    judge->room.stand_ins = NULL;
     scope_clear(&judge->scope);
     if (judge->text.failed) {
         bytes_free(&judge->text);

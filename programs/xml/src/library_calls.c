@@ -1,7 +1,5 @@
 #include "library_calls.h"
 
-#include "controls.h"
-
 #include <stdlib.h>
 
 bool call_room_grow(struct call_room *room, size_t count) {
@@ -14,13 +12,12 @@ bool call_room_grow(struct call_room *room, size_t count) {
     return true;
 }
 
-/* Adds a text, for which there is room, with another character in the place of each control character. */
-static const char *replaced(struct bytes *values, struct span text) {
+/* Adds a text, for which there is room, with other characters in the place of control characters. */
+static struct span replaced(struct call_room *room, struct span text) {
+    struct bytes *values = &room->values;
     size_t begin = values->length;
-    for (size_t at = 0; at < text.length; at++) {
-        bytes_add_byte(values, is_control((unsigned char)text.data[at]) ? INSTEAD_OF_CONTROL : text.data[at]);
-    }
-    return values->data + begin;
+    add_with(room->stand_ins, text, values);
+    return (struct span){values->data + begin, values->length - begin};
 }
 
 bool call_room_replace(struct call_room *room, size_t count) {
@@ -29,7 +26,7 @@ bool call_room_replace(struct call_room *room, size_t count) {
         return true; /* earlier values stay */
     }
     for (size_t at = 0; at < count; at++) {
-        length += room->attributes[at].value_length;
+        length += length_with(room->stand_ins, (struct span){(const char *)room->attributes[at].value, room->attributes[at].value_length});
     }
     bytes_clear(&room->values);
     if (!bytes_reserve(&room->values, length)) {
@@ -37,20 +34,22 @@ bool call_room_replace(struct call_room *room, size_t count) {
     }
     for (rncv_attribute *at = room->attributes; at < room->attributes + count; at++) {
         struct span value = {(const char *)at->value, at->value_length};
-        at->value = has_controls(value) ? (const uint8_t *)replaced(&room->values, value) : at->value;
+        value = has_controls(value) ? replaced(room, value) : value;
+        at->value = bytes_of_span(value);
+        at->value_length = value.length;
     }
     return true;
 }
 
 bool call_room_text(struct call_room *room, struct span *text) {
-    if (!room->has_controls || !has_controls(*text)) {
+    if (room->stand_ins == NULL || !has_controls(*text)) {
         return true;
     }
     bytes_clear(&room->values);
-    if (!bytes_reserve(&room->values, text->length)) {
+    if (!bytes_reserve(&room->values, length_with(room->stand_ins, *text))) {
         return false;
     }
-    text->data = replaced(&room->values, *text);
+    *text = replaced(room, *text);
     return true;
 }
 
@@ -61,5 +60,5 @@ int32_t library_any_text(rncv_schema *schema, struct call_room *room, struct spa
 void call_room_free(struct call_room *room) {
     free(room->attributes);
     bytes_free(&room->values);
-    *room = (struct call_room){NULL, 0, false, NO_BYTES};
+    *room = (struct call_room){NULL, 0, NULL, NO_BYTES};
 }

@@ -2,6 +2,7 @@
 #ifndef LIBRARY_CALLS_H
 #define LIBRARY_CALLS_H
 
+#include "controls.h"
 #include "events.h"
 
 #include <rncv.h>
@@ -10,7 +11,7 @@
 struct call_room {
     rncv_attribute *attributes;
     size_t capacity;
-    bool has_controls;   /* texts and values may have control characters of XML 1.1 */
+    const struct stand_ins *stand_ins; /* for control characters of XML 1.1, which texts and values may have; NULL: they have none */
     struct bytes values; /* those that have other characters in their place */
 };
 
@@ -34,7 +35,7 @@ static inline bool call_room_fill(struct call_room *room, const struct event_att
         *to = (rncv_attribute){bytes_of_span(from->name.uri), from->name.uri.length, bytes_of_span(from->name.local), from->name.local.length,
                                bytes_of_span(from->value), from->value.length};
     }
-    return !room->has_controls || call_room_replace(room, count);
+    return room->stand_ins == NULL || call_room_replace(room, count);
 }
 
 /* Passes a start, with this number as its place. The status is that of rncv_events_start. */

@@ -1,20 +1,21 @@
-/* Whether a schema may tell a control character of XML 1.1 from the one that the library gets instead (controls.h). */
+/* How the library gets documents with control characters of XML 1.1 (controls.h), by what the schema has. */
 #ifndef SCHEMA_CONTROLS_H
 #define SCHEMA_CONTROLS_H
 
+#include "controls.h"
+
 #include <rncv.h>
-#include <stdbool.h>
 
 struct schema_controls {
-    bool is_known;      /* these were found out */
-    bool tells_texts;   /* in texts and values it may tell them apart */
-    bool has_in_spaces; /* one of its namespaces has that one */
+    bool is_known;              /* these were found out */
+    struct stand_ins stand_ins; /* in texts and values */
+    char spelling[5];           /* the end of namespaces with control characters: no namespace of the schema has it behind a delete. Empty: there is none */
 };
 
-/* Finds out, by the simple form. No document of the handle is in progress. Of a form that is not understood both are true. False: out of memory.
+/* Finds out, by the simple form. No document of the handle is in progress. Of a form that is not understood all are empty. False: out of memory.
  *
- * The two have one category and one block, and are no blanks, no digits and in no name. So a schema tells them apart only if it has one of them in a literal,
- * or a `pattern` with a range that has one of them. No schema has a control character of XML 1.1. */
+ * No schema has a control character of XML 1.1. So it tells one from what stands in for it only if it has that in a literal, or by a `pattern` with a range, a
+ * category or a block of one of them. */
 bool schema_controls_read(rncv_schema *schema, struct schema_controls *controls);
 
 #endif

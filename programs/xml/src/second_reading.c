@@ -40,7 +40,7 @@ struct second_pass {
     size_t held;                /* the bytes of the open elements but the innermost */
     struct hint *hints;         /* in the order of their places */
     size_t count, most;
-    bool spells; /* as the first reading: namespaces with control characters are other ones */
+    const struct schema_controls *controls; /* of the schema */
     size_t told; /* how many were told, also of those that are not kept */
     uint32_t capacity;
 };
@@ -336,17 +336,18 @@ static size_t held(const void *context) {
 }
 
 /* The first reading has taken them. */
-static const char *take_control(void *context) {
+static const char *take_control(void *context, struct span text) {
     const struct second_pass *pass = context;
-    pass->second->whole.room.has_controls = true;
-    pass->second->content.room.has_controls = true;
+    (void)text;
+    pass->second->whole.room.stand_ins = &pass->controls->stand_ins;
+    pass->second->content.room.stand_ins = &pass->controls->stand_ins;
     return NULL;
 }
 
 /* The first reading has asked the schema. */
-static bool spells(void *context) {
+static const char *spelling(void *context) {
     const struct second_pass *pass = context;
-    return pass->spells;
+    return pass->controls->spelling[0] == '\0' ? NULL : pass->controls->spelling;
 }
 
 static void read_again(struct second_pass *pass, const struct shared *shared, const struct byte_source *source) {
@@ -358,7 +359,7 @@ static void read_again(struct second_pass *pass, const struct shared *shared, co
                               .note = take_note,
                               .held = held,
                               .control = take_control,
-                              .spells = spells,
+                              .spelling = spelling,
                               .context = pass,
                               .checks_names = true,
                               .depth = shared->depth,
@@ -392,7 +393,7 @@ void second_reading(struct judge *judge, const struct byte_source *source, uint6
         return;
     }
     struct second_pass pass = {.second = judge->second, .first = answer, .first_number = number, .most = judge->shared->most_faults - 1,
-                               .spells = judge->controls.is_known && !judge->controls.has_in_spaces};
+                               .controls = &judge->controls};
     read_again(&pass, judge->shared, source);
     give_hints(&pass, answer);
 }

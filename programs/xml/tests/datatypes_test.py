@@ -221,7 +221,7 @@ class Spelled(InFolder):
 
 
 TOLD = "a control character by a reference, and the schema has a pattern or value that may be about it: outside the profile"
-# What a text is, and whether `v` and a control character of XML 1.1 is one; None: the schema may tell the character from what the library gets instead.
+# What a text is, and whether `v` and a control character of XML 1.1 is one: each, or U+0001, U+000B and U+001F; None: no other character can take the place.
 CONTROLS = (
     ("text", True), ("xsd:string", True), ("xsd:token", True), ("xsd:anyURI", True), ('xsd:string { length = "2" }', True),
     ('xsd:string { length = "1" }', False), ("list { token }", True), ("list { token, token }", False), ("xsd:NMTOKEN", False), ("xsd:ID", False), ('"v"', False), ('string "v"', False),
@@ -230,28 +230,93 @@ CONTROLS = (
     ('xsd:string { pattern = "v\\p{Cc}" }', True), ('xsd:string { pattern = "v\\p{IsBasicLatin}" }', True), ('xsd:string { pattern = "v[^\\P{L}]" }', False),
     ('xsd:string { pattern = "[a-z]*" }', False), ('xsd:string { pattern = "[^!-~]*v?." }', True), ('xsd:string { pattern = "[a-z-[x]]." }', True),
     ('xsd:string { pattern = "v[\\x{E0}-\\x{FF}]" }', False), ('xsd:string { pattern = "(v-)?.\\t?." }', True),
-    ('xsd:string { pattern = "v[ -\\x{FF}]" }', None), ('xsd:string { pattern = "v[\\x{9}-~]" }', None), ('xsd:string { pattern = "v[\\x{A}-~]" }', None),
-    ('xsd:string { pattern = "v[\\t-~]" }', None), ('xsd:string { pattern = "v[\\r-~]" }', None), ('xsd:string { pattern = "v[^\\--\\x{10FFFF}]" }', None),
-    ('xsd:string { pattern = "v\\x{7F}" }', None), ('xsd:string { length = "2" pattern = "[ -" ~ "\\x{FF}]*" }', None), ('"v\\x{7F}"', None),
-    ('xsd:token "\\x{7F}"', None), ('text | "\\x{7F}"', None),
+    ('xsd:string { pattern = "v[ -\\x{FF}]" }', False), ('xsd:string { pattern = "v[\\x{9}-~]" }', (False, True, True)),
+    ('xsd:string { pattern = "v[\\x{A}-~]" }', (False, True, True)), ('xsd:string { pattern = "v[\\t-~]" }', (False, True, True)),
+    ('xsd:string { pattern = "v[\\r-~]" }', (False, False, True)), ('xsd:string { pattern = "v[^\\--\\x{10FFFF}]" }', True),
+    ('xsd:string { pattern = "v\\x{7F}" }', False), ('xsd:string { length = "2" pattern = "[ -" ~ "\\x{FF}]*" }', False), ('"v\\x{7F}"', False),
+    ('xsd:token "\\x{7F}"', False), ('text | "\\x{7F}"', True), ('xsd:token - (token "v\\x{7F}" | string "v\\x{80}")', True),
+    ('list { xsd:anyURI { pattern = "[^ -\\x{9F}]+" } }', False), ('xsd:string { pattern = "v[\\p{C}-[\\x{7F}]]" }', True),
+    ('xsd:string { pattern = "v[\\p{C}-[\\x{7F}-\\x{9F}]]" }', True), ('xsd:string { pattern = "v[\\P{IsPrivateUse}-[\\x{7F}-\\x{9F}]]" }', True),
+    ('xsd:string { pattern = "v[\\p{IsBasicLatin}-[\\x{7F}]]" }', True), ('xsd:string { pattern = "v[\\W-[\\x{7F}-\\x{10FFFF}]]" }', True),
+    ('xsd:string { pattern = "v[\\P{P}-[\\x{7F}-\\x{10FFFF}]]" }', True),
+    ('xsd:string { pattern = "v[\\x{7F}-\\x{10FFFF}]|v[^\\D]|v[\\p{Nl}\\p{Pc}]" }', False),
+    ('xsd:string { pattern = "v[\\t-\\x{FF}-[\\x{7F}-\\x{9F}\\s]]" }', (False, True, True)),
+    ('xsd:string { pattern = "v{1}[^ -\\x{FF}]{1,2}(x{2,}|y{0})" }', True), ('xsd:string { pattern = "v[^-]|[-a][!-\\-][!-]" }', True),
+    ('xsd:string { pattern = "v[^a--[b-[c]]]" }', True), ('xsd:string { pattern = "v[^\\[\\]^{}|.?*+()\\\\]" }', True),
+    ('xsd:string { pattern = "v[\\n-\\r]" }', (False, None, False)), ('xsd:string { pattern = "v[\\t-\\x{10FFFF}]" }', (None, True, True)),
+    ('xsd:string { pattern = "[\\t\\n\\r -\\x{D7FF}\\x{E000}-\\x{FFFD}\\x{10000}-\\x{10FFFF}]*" }', None),
+    ('xsd:string { pattern = "v[\\p{Cc} -\\x{9F}]" }', None), ('xsd:string { pattern = "v[\\p{IsBasicLatin}!-\\x{9F}]" }', None),
 )
+# The characters that may take the place, by their categories and blocks.
+STAND_INS = (
+    ("Cc", "BasicLatin", "\x7f"), ("Cc", "Latin-1Supplement", "\x80\x84\x86\x9f"), ("Co", "PrivateUse", "\ue000\uf8ff\U000f0000\U000ffffd\U00100000\U0010fffd"),
+    ("Cn", "ArabicPresentationForms-A", "\ufdd0\ufdef"), ("Cn", None, "\U000ffffe\U000fffff\U0010fffe\U0010ffff"), ("Cf", "Latin-1Supplement", "\xad"),
+    ("Cf", "GeneralPunctuation", "\u202a\u202e"), ("Po", "BasicLatin", '"\\'), ("Ps", "BasicLatin", "{"), ("Pe", "BasicLatin", "}"),
+    ("Sm", "BasicLatin", "|<>"), ("Sk", "BasicLatin", "^`"), ("Zs", "Latin-1Supplement", "\xa0"),
+    ("Po", "Latin-1Supplement", "\xa1"), ("Sc", "Latin-1Supplement", "\xa2\xa3\xa4\xa5"),
+    ("So", "Latin-1Supplement", "\xa6"), ("Pi", "Latin-1Supplement", "\xab"), ("Sm", "Latin-1Supplement", "\xac"), ("No", "Latin-1Supplement", "\xb2\xb3"),
+    ("Pf", "Latin-1Supplement", "\xbb"), ("Pd", "GeneralPunctuation", "\u2010\u2015"), ("Po", "GeneralPunctuation", "\u2020\u2027\u2030\u2038"),
+    ("Zl", "GeneralPunctuation", "\u2028"), ("Zp", "GeneralPunctuation", "\u2029"), ("Sm", "Arrows", "\u2190\u2194"), ("So", "Arrows", "\u2195\u2199"),
+    ("Sm", "MathematicalOperators", "\u2200\u22ff"), ("Zs", "CJKSymbolsandPunctuation", "\u3000"),
+)
+# What each of them may be, where it is `*`; a text of a name, number or moment has none.
+URIS = ("*", "v*", "*:v", "v*:w", "v:*", "v:/*", "//*", "//v*w:1", "//v:1*", "//[::1]*", "//[*]", "//v@*", "?*", "#*", "v#*#", "%4*", "%*", "*%41")
+OTHERS = ("NCName", "Name", "NMTOKEN", "NMTOKENS", "ID", "IDREFS", "ENTITY", "QName", "NOTATION", "language", "boolean", "integer", "decimal", "float",
+          "double", "duration", "dateTime", "time", "date", "gYearMonth", "gYear", "gMonthDay", "gDay", "gMonth", "hexBinary", "base64Binary")
 
 
 class Controls(InFolder):
     """Control characters of XML 1.1. The library has none, and gets another character for each."""
 
     def test_the_verdicts(self):
-        for number, (form, wanted) in enumerate(CONTROLS):
+        names = [self.write(f"{kind}{code}.xml", f'<?xml version="1.1"?>{before}v&#{code};{after}').name
+                 for code in (1, 11, 31) for kind, before, after in (("x", '<a x="', '"/>'), ("t", "\n<a>", "</a>"))]
+        for form, wanted in CONTROLS:
             self.write("c.rnc", f"element a {{ attribute x {{ {form} }} | ({form}) }}")
-            for code in (1, 11, 31):
-                self.write("x.xml", f'<?xml version="1.1"?><a x="v&#{code};"/>')
-                self.write("t.xml", f'<?xml version="1.1"?>\n<a>v&#{code};</a>')
-                lines = [json.loads(it) for it in self.run_in(RNCV_XML, "--format", "json", "c.rnc", "x.xml", "t.xml")[0].splitlines()]
-                verdict = "outside" if wanted is None else "valid" if wanted else "invalid"
-                with self.subTest((form, code)):
-                    self.assertEqual([it["verdict"] for it in lines], [verdict, verdict], lines)
-                    if wanted is None:
-                        self.assertEqual([(it["line"], it["column"], it["message"]) for it in lines], [(1, 22, TOLD), (2, 4, TOLD)])
+            lines = [json.loads(it) for it in self.run_in(RNCV_XML, "--format", "json", "c.rnc", *names)[0].splitlines()]
+            wanted = ["outside" if it is None else "valid" if it else "invalid" for it in (wanted if isinstance(wanted, tuple) else (wanted,) * 3)]
+            with self.subTest(form):
+                self.assertEqual([it["verdict"] for it in lines], [it for it in wanted for _ in "xt"], lines)
+                told = [(it["file"][0], it["line"], it["column"], it["message"]) for it in lines if it["verdict"] == "outside"]
+                self.assertEqual(told, [("x", 1, 22, TOLD), ("t", 2, 4, TOLD)] * wanted.count("outside"))
+
+    def test_classes_together(self):
+        """Characters of two classes in one text each have their own character. Only a text with one that has none is refused."""
+        self.write("c.rnc", 'element a { element b { xsd:string { pattern = "[\\x{9}-z][^\\x{9}-z][A-~]?" } }* }')
+        self.write("d.xml", '<?xml version="1.1"?>\n<a><b>&#xB;&#1;</b><b>&#x1F;&#8;</b><b>&#x1F;&#8;x</b>\n<b>&#1;&#xB;</b></a>')
+        told = 'the text of <b> is an xsd:string that the schema does not allow ("\\x01\\x0b"); expected xsd:string { pattern = "[\\t-z][^\\t-z][A-~]?" }'
+        self.assertEqual(self.run_in(RNCV_XML, "c.rnc", "d.xml"), (f"d.xml:3:4: invalid: {told}\n", "", 1))
+        self.write("c.rnc", 'element a { element b { xsd:string { pattern = "[\\n-\\r]?.*" } }* }')
+        self.write("d.xml", '<?xml version="1.1"?>\n<a><b>&#x1F;&#1;</b>\n<b>&#x1F;&#xB;</b></a>')
+        self.assertEqual(self.run_in(RNCV_XML, "c.rnc", "d.xml"), (f"d.xml:3:4: {TOLD}\n", "", 2))
+
+    def test_what_takes_their_place(self):
+        """Categories, blocks and datatypes have these characters as the program takes it."""
+        kinds, blocks = sorted({it[0] for it in STAND_INS}), sorted({it[1] for it in STAND_INS if it[1]})
+        named = "".join(f'e |= element {it} {{ xsd:string {{ pattern = "\\p{{{it}}}*" }} }}\n' for it in kinds)
+        named += "".join(f'e |= element {it} {{ xsd:string {{ pattern = "\\p{{Is{it}}}*" }} }}\n' for it in blocks)
+        others = "".join(f"\\p{{Is{it}}}" for it in blocks)
+        self.write("c.rnc", f'start = element a {{ e* }}\n{named}e |= element none {{ xsd:string {{ pattern = "[^{others}]*" }} }}\n')
+        found = [(name or "none", "".join(f"&#{ord(c)};" for c in characters)) for *names, characters in STAND_INS for name in names]
+        self.write("d.xml", "<a>" + "\n".join(f"<{name}>{text}</{name}>" for name, text in found) + "</a>")
+        self.assertEqual(self.run_in(RNCV_XML, "--all", "c.rnc", "d.xml"), ("d.xml: valid\n", "", 0))
+
+    def test_what_datatypes_take(self):
+        """A URI takes each of these characters where it takes a delete, and the types without patterns take none."""
+        characters = "".join(it[2] for it in STAND_INS)
+
+        def verdicts(schema, form):
+            names = [self.write(f"{number}.xml", f"<a>{form.replace('*', f'&#{ord(c)};')}</a>").name for number, c in enumerate(characters)]
+            return {json.loads(it)["verdict"] for it in self.run_in(RNCV_XML, "--no-ids", "--format", "json", schema, *names)[0].splitlines()}
+
+        self.write("u.rnc", "element a { xsd:anyURI }")
+        self.write("o.rnc", f"element a {{ {' | '.join(f'xsd:{it}' for it in OTHERS)} }}")
+        for form in URIS:
+            with self.subTest(form):
+                self.assertEqual(len(verdicts("u.rnc", form)), 1)
+        for form in ("*", "a*", "1*", "*1", "00*", "2000-01-01*", "ab*:c", "P1Y*"):
+            with self.subTest(form):
+                self.assertEqual(verdicts("o.rnc", form), {"invalid"})
 
     def test_that_they_are_shown(self):
         self.write("c.rnc", 'element a { attribute x { "v" }, element b { xsd:integer }* }')
@@ -271,11 +336,23 @@ class Controls(InFolder):
         self.write("d.xml", '<?xml version="1.1"?>\n<a xmlns:p="u&#1;" xmlns:q="u">\n<p:c/><q:b x="1"/></a>')
         self.assertEqual(self.run_in(RNCV_XML, "c.rnc", "d.xml"), ("d.xml:3:7: invalid: <q:b> is not allowed here; expected any element (with exceptions)\n", "", 1))
         self.write("c.rnc", schema.format("u\\x{7F}A"))
-        self.assertEqual(self.run_in(RNCV_XML, "c.rnc", "d.xml"), (
-            "d.xml:2:1: a namespace with a control character of XML 1.1, and the schema has one with U+007F: outside the profile\n", "", 2))
+        self.assertEqual(self.run_in(RNCV_XML, "c.rnc", "d.xml"), ("d.xml:3:7: invalid: attribute x is not allowed in <q:b>; expected {u\\x7fA}x\n", "", 1))
         self.write("d.xml", '<?xml version="1.1"?>\n<a xmlns:q="u&#127;A"><q:b x="v&#1;"/><q:c/></a>')
         self.assertEqual(self.run_in(RNCV_XML, "c.rnc", "d.xml"), (
             'd.xml:2:23: invalid: attribute x of <q:b> is no xsd:integer ("v\\x01")\nd.xml:2:39: hint: <q:c> is not allowed here; expected <q:b> or any element (with exceptions)\n', "", 1))
+
+    def test_namespaces_that_are_like_a_spelling(self):
+        """No namespace is another one, whatever the schema or the document has."""
+        uris = ("u", "u&#1;", "u&#127;", "u&#127;A", "u&#127;?", "u&#127;A&#127;\ue000", "u&#127;?&#127;\ue000", "u&#127;\ue000", "u&#127;A&#127;\ue001",
+                "u&#2;", "uA", "u&#1;&#127;\ue000")
+        tag = "".join(f' xmlns:p{number}="{uri}"' for number, uri in enumerate(uris)) + "".join(f' p{number}:x=""' for number in range(len(uris)))
+        for wanted in ("u", "u\\x{7F}", "u\\x{7F}A", "u\\x{7F}A\\x{7F}\\x{E000}", "u\\x{7F}?\\x{7F}\\x{E000}", "u\\x{7F}\\x{E000}"):
+            own = next(number for number, uri in enumerate(uris) if uri == wanted.replace("\\x{7F}", "&#127;").replace("\\x{E000}", "\ue000"))
+            self.write("c.rnc", f'namespace u = "{wanted}"\nelement a {{ attribute * {{ text }}*, element u:b {{ empty }}, element * - u:* {{ empty }}* }}')
+            self.write("d.xml", f'<?xml version="1.1"?><a{tag}>{"".join(f"<p{at}:b/>" for at in (own, *(it for it in range(len(uris)) if it != own)))}</a>')
+            self.assertEqual(self.run_in(RNCV_XML, "--all", "c.rnc", "d.xml"), ("d.xml: valid\n", "", 0), wanted)
+        self.write("d.xml", '<?xml version="1.1"?><!DOCTYPE a [<!ATTLIST a xmlns:q CDATA "u&#1;">]>\n<a xmlns:p="u&#x01;" p:x="" q:x=""/>')
+        self.assertIn("2:1: malformed", self.run_in(RNCV_XML, "--all", "c.rnc", "d.xml")[0])
 
     def test_pieces(self):
         """A reference that a piece of the document cuts is read as another."""
