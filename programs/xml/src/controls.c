@@ -16,8 +16,9 @@ static int digit_of(char byte, int base) {
     return value < base ? value : -1;
 }
 
-/* The length of a reference to a control character or a delete at the start of the text, and its code; 0: there is none. */
-static size_t reference_length(struct span text, long *code) {
+/* Reads a reference by a number at the start of the text, as long as its code may be that of a control character or a delete. Returns where its digits end;
+ * 0: there is none. */
+static size_t read_code(struct span text, long *code) {
     if (text.length < SHORTEST || text.data[0] != '&' || text.data[1] != '#') {
         return 0;
     }
@@ -28,8 +29,7 @@ static size_t reference_length(struct span text, long *code) {
         *code = base * *code + digit_of(text.data[at], base);
         at++;
     }
-    bool is_marked = is_control(*code) || *code == DELETE;
-    return at < text.length && at < LONGEST_CONTROL && text.data[at] == ';' && is_marked ? at + 1 : 0;
+    return at;
 }
 
 static bool begins(struct span text, const char *with) {
@@ -60,12 +60,16 @@ static void open_markup(struct control_scan *scan, uint64_t offset, struct span 
 /* Begins a mark if there is a reference. */
 static void open_mark(struct control_scan *scan, uint64_t offset, struct span rest) {
     long code = 0;
-    size_t length = reference_length(rest, &code);
-    if (length > 0) {
+    size_t end = read_code(rest, &code);
+    bool is_known = end > 0 && end < rest.length && end < LONGEST_CONTROL && rest.data[end] == ';';
+    if (is_known && (is_control(code) || code == DELETE)) {
         scan->has_marks = true;
         scan->letter = (char)(code ^ LETTER_BIT);
         scan->begin = offset;
-        scan->behind = offset + length;
+        scan->behind = offset + end + 1;
+    } else if (end == LONGEST_CONTROL && code <= DELETE && !scan->has_long) {
+        scan->has_long = true;
+        scan->long_at = offset;
     }
 }
 
@@ -113,9 +117,10 @@ void mark_controls(struct control_scan *scan, uint64_t offset, struct span text,
     }
 }
 
-bool mark_controls_in(char *text, size_t length, bool is_content) {
+bool mark_controls_in(char *text, size_t length, bool is_content, bool *has_long) {
     struct control_scan scan = {.is_content = is_content};
     mark_controls(&scan, 0, (struct span){text, length}, text, length);
+    *has_long = scan.has_long;
     return scan.has_marks;
 }
 

@@ -26,6 +26,8 @@ struct control_scan {
     char kind;       /* what is being read: the quote of a literal of a DTD, `-` of a comment, `?` of an instruction, `[` of a section; 0: none of these */
     bool is_content; /* this is the root or something behind it, or the text of an entity for content: no literals, but CDATA sections */
     bool has_marks;  /* a reference was found */
+    bool has_long;   /* so was one that is too long to know what it refers to: the document is refused, since what has a delete has to have a mark */
+    uint64_t long_at; /* where the first of these is */
     char letter;     /* of the last one */
     uint64_t begin;  /* where it begins */
     uint64_t behind; /* where it ends, or what begins a comment, an instruction or a section: the bytes before need no look */
@@ -40,8 +42,11 @@ bool is_control(long code);
 /* Copies `count` bytes of the text, with marks in the place of references. The text goes on for LONGEST_CONTROL bytes more, unless the document ends. */
 void mark_controls(struct control_scan *scan, uint64_t offset, struct span text, char *to, size_t count);
 
-/* Writes marks into a text of a DTD, or into the text of an entity for content. Returns whether there are any. */
-bool mark_controls_in(char *text, size_t length, bool is_content);
+/* Writes marks into a text of a DTD, or into the text of an entity for content. Returns whether there are any. `has_long` is that of the scan. */
+bool mark_controls_in(char *text, size_t length, bool is_content, bool *has_long);
+
+/* Why a document is refused that has a reference which is too long. */
+static const char long_reference[] = "a reference to a character of 64 bytes or more, in XML 1.1: outside the profile";
 
 /* Whether a text has a mark, or a part of one. */
 bool has_control_marks(struct span text);
