@@ -21,7 +21,9 @@ export RNCV_XML_PROGRAMS RNCV_PROGRAM
 converters() {
     python3 -B "$here/converter/test_converter.py" || return 1
     if [ -x "$RNCV_XML_PROGRAMS/xml2pyx" ]; then
-        python3 -B "$here/tests/conversion_test.py" && python3 -B "$here/tests/nesting_test.py"
+        for part in conversion nesting sections; do
+            python3 -B "$here/tests/${part}_test.py" || return 1
+        done
     else
         echo "test.sh: no xml2pyx: the conversion in C is not tested"
         [ -z "$RNCV_REQUIRED" ]

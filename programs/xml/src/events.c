@@ -147,6 +147,11 @@ static inline struct position raw_position(struct reader *reader, const xmlChar 
 static struct position other_position(struct reader *reader, size_t length) {
     struct feed *feed = &reader->feed;
     uint64_t end = feed_offset(feed);
+    if (feed->section.is_continued && feed_is_read(feed)) {
+        uint64_t next = feed->next;
+        feed_move(feed, end);
+        return (struct position){next, length};
+    }
     uint64_t begin = feed_settle(feed, end);
     bool is_in = feed_is_read(feed);
     bool has_blanks = is_in && feed_byte(feed, begin) != '&';
@@ -227,6 +232,21 @@ static void take_text(void *context, const xmlChar *text, int size) {
     }
     reader->unasked += length;
     reader->sink.text(reader->sink.context, raw_position(reader, text, length), (struct span){(const char *)text, length}, true);
+}
+
+/* Takes a CDATA section, or a part of one that was cut. */
+static void take_section(void *context, const xmlChar *text, int size) {
+    struct reader *reader = context;
+    xmlParserInput *input = reader->feed.parser->inputTab[0];
+    bool is_part = section_is_part(&reader->feed.section, input);
+    if (reader->feed.controls.has_marks) {
+        take_marked_text(context, text, size);
+    } else {
+        take_text(context, text, size);
+    }
+    if (feed_is_read(&reader->feed)) {
+        section_begins_again(&reader->feed.section, input, is_part);
+    }
 }
 
 /* Sets the position of a start tag in the document, and moves on behind it. */
@@ -764,6 +784,12 @@ static void hand_instruction(struct reader *reader, struct position position, st
     }
 }
 
+static void hand_good_instruction(struct reader *reader, struct span target, struct span data) {
+    if (is_good(reader)) {
+        hand_instruction(reader, instruction_position(reader), target, data);
+    }
+}
+
 static void take_instruction(void *context, const xmlChar *target, const xmlChar *data) {
     struct reader *reader = context;
     struct span span = span_of(data);
@@ -771,9 +797,17 @@ static void take_instruction(void *context, const xmlChar *target, const xmlChar
     if (!feed_is_read(&reader->feed) && span.length > mark && memcmp(span.data, instruction_mark, mark) == 0 && span.data[mark] == '%') {
         span = (struct span){span.data + mark, span.length - mark};
     }
-    if (is_good(reader)) {
-        hand_instruction(reader, instruction_position(reader), span_of(target), span);
+    if (!feed_is_read(&reader->feed)) {
+        hand_good_instruction(reader, span_of(target), span);
+        return;
     }
+    xmlParserInput *input = reader->feed.parser->inputTab[0];
+    bool is_part = section_is_part(&reader->feed.section, input);
+    if (!reader->feed.section.is_continued) {
+        hand_good_instruction(reader, span_of(target), span); /* of a long one this is the beginning */
+    }
+    feed_move(&reader->feed, feed_offset(&reader->feed));
+    section_begins_again(&reader->feed.section, input, is_part);
 }
 
 /* A comment vanishes. */
@@ -781,7 +815,10 @@ static void take_comment(void *context, const xmlChar *text) {
     struct reader *reader = context;
     (void)text;
     if (feed_is_read(&reader->feed)) {
+        xmlParserInput *input = reader->feed.parser->inputTab[0];
+        bool is_part = section_is_part(&reader->feed.section, input);
         feed_move(&reader->feed, feed_offset(&reader->feed));
+        section_begins_again(&reader->feed.section, input, is_part);
     }
 }
 
@@ -1035,7 +1072,7 @@ static void set_handlers(xmlSAXHandler *handlers) {
     handlers->endElementNs = take_end;
     handlers->characters = take_text;
     handlers->ignorableWhitespace = take_text;
-    handlers->cdataBlock = take_text;
+    handlers->cdataBlock = take_section;
     handlers->processingInstruction = take_instruction;
     handlers->comment = take_comment;
     handlers->serror = take_error;
@@ -1120,7 +1157,6 @@ static void use_marks(void *context) {
     reader->feed.spelling = reader->sink.spelling == NULL ? NULL : reader->sink.spelling(reader->sink.context);
     handlers->characters = take_marked_text;
     handlers->ignorableWhitespace = take_marked_text;
-    handlers->cdataBlock = take_marked_text;
     reader->is_unusual = true;
 }
 

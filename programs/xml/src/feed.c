@@ -6,7 +6,7 @@
 
 enum {
     PIECE_BYTES = 65536,    /* of the document, read at once */
-    TOKEN_BYTES = 1000000000, /* the longest markup: libxml2 takes no more */
+    TOKEN_BYTES = 1000000000, /* the longest tag or declaration: libxml2 takes no more */
     LONG_BYTES = 1048576,     /* the beginning of longer markup is not kept */
     COUNTED_BYTES = 128,    /* whose line feeds are counted together: fewer than 256 */
     FORGOTTEN_BYTES = 65536 /* the text that was read is forgotten in pieces of this length */
@@ -206,7 +206,7 @@ static void cut(struct feed *feed, uint64_t end) {
 static void forget_long(struct feed *feed) {
     uint64_t given = feed->begin + feed->given;
     uint64_t markup = feed_markup(feed);
-    if (given < markup + LONG_BYTES || feed_byte(feed, markup) != '<') {
+    if (feed->section.is_continued || given < markup + LONG_BYTES || feed_byte(feed, markup) != '<') {
         return;
     }
     if (feed->long_at != markup) {
@@ -406,6 +406,17 @@ static void check_length(struct feed *feed, uint64_t markup) {
     feed_check_memory(feed, feed->place);
 }
 
+/* Looks at the markup that libxml2 reads. */
+static void check(struct feed *feed) {
+    uint64_t markup = feed_markup(feed);
+    section_look(&feed->section, markup, (struct span){feed->text.data, feed->given}, feed->begin);
+    if (!feed->section.is_continued) {
+        check_tag(feed, markup);
+        check_choices(feed, markup);
+    }
+    check_length(feed, markup);
+}
+
 /* Lets libxml2 ask no more if it has all of the document. Else it asks at each token of the last 250 bytes, which takes long for many small documents. */
 static void stop_asking(struct feed *feed) {
     xmlParserInputBufferPtr buffer = feed->parser->input == NULL ? NULL : feed->parser->input->buf;
@@ -427,8 +438,8 @@ void feed_has_marks(struct feed *feed) {
     }
 }
 
-/* Gives so many bytes to libxml2. */
-static void give(struct feed *feed, char *bytes, size_t count) {
+/* Writes so many bytes for libxml2. */
+static void write_bytes(struct feed *feed, char *bytes, size_t count) {
     const char *from = feed->text.data + feed->given;
     size_t left = feed->text.length - feed->given;
     bool had_marks = feed->controls.has_marks;
@@ -448,6 +459,25 @@ static void give(struct feed *feed, char *bytes, size_t count) {
     if (feed->controls.has_marks && !had_marks) {
         feed->marked(feed->context);
     }
+}
+
+/* Gives at most so many bytes to libxml2, and cuts a long section. Returns how many they are. */
+static size_t give(struct feed *feed, char *bytes, size_t most) {
+    const xmlParserInput *input = feed->parser == NULL ? NULL : feed->parser->inputTab[0];
+    struct span next = {feed->text.data + feed->given, feed->text.length - feed->given};
+    uint64_t offset = feed->begin + feed->given;
+    size_t cut = SIZE_MAX;
+    if (feed->given > 0 && input != NULL && input->consumed >= CUT_BYTES && next.length >= most && most >= 2 * CUT_BYTES) {
+        next.length = most - CUT_BYTES;
+        cut = section_cut_in(&feed->section, next.data[-1], offset, next);
+    }
+    if (cut == SIZE_MAX) {
+        size_t count = next.length < most ? next.length : most;
+        write_bytes(feed, bytes, count);
+        return count;
+    }
+    write_bytes(feed, bytes, next.length);
+    return next.length + section_cut(&feed->section, bytes, next.length, cut, offset);
 }
 
 /* Tells about the first code that other programs read otherwise, once libxml2 has it. */
@@ -479,17 +509,12 @@ int feed_read(void *context, char *bytes, int length) {
     if (feed->fault->kind != FAULT_NONE) {
         return -1;
     }
-    size_t left = feed->text.length - feed->given;
-    size_t count = left < wanted ? left : wanted;
-    if (count == 0) {
+    if (feed->text.length == feed->given || wanted == 0) {
         return 0;
     }
-    give(feed, bytes, count);
+    size_t count = give(feed, bytes, wanted);
     tell_doubt(feed);
     stop_asking(feed);
-    uint64_t markup = feed_markup(feed);
-    check_tag(feed, markup);
-    check_choices(feed, markup);
-    check_length(feed, markup);
+    check(feed);
     return feed->fault->kind == FAULT_NONE ? (int)count : -1;
 }

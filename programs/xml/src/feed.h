@@ -9,6 +9,7 @@
 #include "decoding.h"
 #include "events.h"
 #include "models.h"
+#include "sections.h"
 
 #include <libxml/parser.h>
 
@@ -47,6 +48,7 @@ struct feed {
     struct tag_scan scan;
     struct control_scan controls; /* in a document of XML 1.1 */
     struct model_scan models;
+    struct section section;
     const char *spelling; /* of marks in namespaces (spell_controls); NULL: these become characters */
     struct bytes room;  /* where the document's bytes are read */
     uint64_t long_at;   /* the offset of markup that is so long that its beginning is not kept, .. */

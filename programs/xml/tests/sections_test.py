@@ -1,0 +1,126 @@
+"""Tests of long comments, instructions and CDATA sections, which libxml2 gets in parts, and of a build that cuts and nests as soon as it can."""
+import os
+import random
+import subprocess
+import unittest
+
+import nesting_test
+from testing import HERE, RNCV_XML, XML2PYX, InFolder, peak_of
+
+DOCUMENTS = int(os.environ.get("RNCV_XML_SECTIONS", "60"))
+ANY = "any = element * { (attribute * { text } | text | any)* } start = any"
+
+
+class Sections:
+    """Documents of sections, many of them with what ends or begins sections."""
+
+    def __init__(self, seed):
+        self.chance = random.Random(seed)
+
+    def body(self, *pieces):
+        length = self.chance.choice((0, 1, 5, 300, 4000, 9000))
+        pieces = self.chance.choice(pieces)
+        return "".join(self.chance.choice(pieces) for _ in range(length))
+
+    def data(self):
+        text = self.body("]", "] ", "x]", ("x", "]", "]]", ">"), '<a b="1">&amp;| ', "\u3042]>x", "\n ", ("<b>", "</b>", "<!--", "-->", "<?", "?>", "<![CDATA["))
+        return f"<![CDATA[{text.replace(']]>', '] ]>')}{']' * self.chance.randrange(4)}]]>"
+
+    def comment(self):
+        text = self.body("- ", "x-", "x", "\u3042-", "<!|>", "?> ", "\"'", ("<!-", "->", "]]>", "<b>"))
+        while "--" in text and self.chance.random() < 0.99:
+            text = text.replace("--", "- ")
+        return f"<!--{text} -->"
+
+    def instruction(self):
+        return f"<?p {self.body('?', '? ', 'x?>', 'x')[:200].replace('?>', '? ')}?>"
+
+    def section(self):
+        return self.chance.choice((self.data, self.comment, self.comment, self.instruction))()
+
+    def document(self):
+        declared = f"<!DOCTYPE a [{self.comment()}<!ENTITY e 'v'>{self.instruction()}<!ELEMENT a ANY>]>" if self.chance.random() < 0.3 else ""
+        version = '<?xml version="1.1"?>' if self.chance.random() < 0.2 else ""
+        content = "".join(self.chance.choice(("", " ", "x", "\n", "<b/>", "&lt;", "text" * 900)) + self.section() for _ in range(self.chance.randrange(6)))
+        return f"{version}{declared}<a>{content}{self.chance.choice(('</a>', '</a>', '</a>', '</b>', '', ']]></a>', '<![CDATA[x', '<!--'))}"
+
+
+class Variant(InFolder):
+    """A build of `xml2pyx` that cuts sections at each read, and puts all entities into one another."""
+
+    def setUp(self):
+        super().setUp()
+        flags = {"CFLAGS": "-O1 -DUNCUT_BYTES=1 -DLEVELS_OF_LIBXML2=0", "ONLY": "xml2pyx"}
+        build = subprocess.run([HERE / "build.sh", self.folder / "variant"], capture_output=True, text=True, check=False, env={**os.environ, **flags})
+        self.assertEqual((build.returncode, build.stderr), (0, ""))
+
+    def converted(self, program, data):
+        """The PYX with each text on the line before, the places of its lines if all texts fit on one, what is reported, and the status."""
+        self.write("d.xml", data)
+        out, reported, status = self.run_in(program, "--lines", "places", "d.xml")
+        places = (self.folder / "places").read_text() if len(data) < 20_000 else ""
+        return (out.replace("\n-", ""), places, "", 0) if status == 0 else ("", "", reported, status)
+
+    def test_it_gives_the_same(self):
+        good = 0
+        for seed in range(DOCUMENTS):
+            document = Sections(seed).document()
+            wanted = self.converted(XML2PYX, document)
+            self.assert_same(self.converted(self.folder / "variant/xml2pyx", document), wanted, seed)
+            good += wanted[-1] == 0
+        self.assertGreater(good, DOCUMENTS // 5)
+        for seed in range(DOCUMENTS):
+            document = nesting_test.System(seed).document(0)
+            self.assertEqual(self.converted(self.folder / "variant/xml2pyx", document)[0], self.converted(XML2PYX, document)[0], seed)
+
+
+class Long(InFolder):
+    """Sections of megabytes."""
+
+    def setUp(self):
+        super().setUp()
+        if not RNCV_XML.exists():
+            self.skipTest("no rncv-xml")
+        self.write("any.rnc", ANY)
+
+    def judged(self, document, schema="any.rnc"):
+        self.write("d.xml", document)
+        return self.judge("--all", schema, "d.xml")
+
+    def test_the_text_of_a_section(self):
+        for piece, count in (("abc] <x>&| ", 300_000), ("\u3042]>", 700_000), ("]", 2_100_000), ("\n<?x -->", 400_000)):
+            length = len(piece) * count
+            expression = "".join(f"\\{letter}" if letter in "]|?-" else "&#10;" if letter == "\n" else letter for letter in piece).replace("&#10;", "\\n")
+            self.write("s.rnc", f"element a {{ element b {{ empty }}, element c {{ xsd:string {{ length = '{length}' pattern = '({expression})*' }} }} }}")
+            for document, verdict in ((f"<a><b/><c><![CDATA[{piece * count}]]></c></a>", ("d.xml: valid\n", 0)),
+                                      (f"<a><b/><c><![CDATA[{piece * (count - 1)}]]></c></a>", 1), (f"<a><b/><c><![CDATA[{piece * count}x]]></c></a>", 1)):
+                with self.subTest(piece=piece):
+                    found = self.judged(document, "s.rnc")
+                    self.assertEqual(found if verdict != 1 else found[1], verdict)
+
+    def test_places_behind_long_sections(self):
+        for section in (f"<![CDATA[{'x] ' * 900_000}\n]]>", f"<!--{'x- ' * 900_000}\n-->", f"<?p {'x? ' * 900_000}\n?>"):
+            self.write("s.rnc", "element a { text, element b { empty } }")
+            self.assertRegex(self.judged(f"<a>{section}   <c/></a>", "s.rnc")[0], "^d.xml:2:\\d+: invalid: <c> is not allowed")
+            column = int(self.judged(f"<a>{section}   <c/></a>", "s.rnc")[0].split(":")[2])
+            self.assertEqual(column, len(section.split("\n")[1]) + 4)
+
+    def test_faults_in_long_sections(self):
+        long = "x " * 1_200_000
+        for document in (f"<a><![CDATA[{long}</a>", f"<a><!--{long}</a>", f"<a><?p {long}</a>", f"<a><!--{long}--{long}--></a>", f"<a><!--{long}---></a>",
+                         f"<!DOCTYPE a [<!--{long}]><a/>", f"<a><![CDATA[{long}]]>]]></a>"):
+            self.assertEqual(self.judged(document)[1], 2)
+        for document in (f"<!DOCTYPE a [<!--{'<!ENTITY | ' * 200_000}-->]><a/>", f"<a><![CDATA[{'<b a=1 ' * 400_000}]]></a>", f"<!--{long}--><a/><!--{long}-->"):
+            self.assertEqual(self.judged(document), ("d.xml: valid\n", 0))
+
+    def test_memory(self):
+        self.without_sanitizers(RNCV_XML)
+        for begin, end in (("<![CDATA[", "]]>"), ("<!--", "-->"), ("<?p ", "?>")):
+            self.write("d.xml", f"<a>{begin}{'text ' * 8_000_000}{end}</a>")
+            peak, status = peak_of((RNCV_XML, self.folder / "any.rnc", self.folder / "d.xml"))
+            self.assertEqual(status, 0)
+            self.assertLess(peak, 16_384)
+
+
+if __name__ == "__main__":
+    unittest.main()
