@@ -9,8 +9,8 @@ SYSTEMS = int(os.environ.get("RNCV_XML_SYSTEMS", "60"))
 MANY = 520
 LOOP = "malformed XML: recursive entity reference"
 
-TEXTS = ("x", " ", "\n", "\t", "]", "]]", ">", "]]&gt;", "\u00e9", "&#38;#60;", "&#38;#38;", "&#38;#9;", "&#38;#10;", "&#38;#13;", "&#13;", "&#9;", "&lt;", "&#38;lt;",
-         "&#34;", "<b/>", "<b></b>", "<!-- &e0; -->", "<?p &e0; ?>", "<![CDATA[&e0;]]>")
+TEXTS = ("x", " ", "\n", "\t", "]", "]]", ">", "]]&gt;", "\u00e9", "&#38;#60;", "&#38;#38;", "&#38;#9;", "&#38;#10;", "&#38;#13;", "&#13;", "&#9;", "&lt;",
+         "&#38;lt;", "&#34;", "<b/>", "<b></b>", "<!-- &e0; -->", "<?p &e0; ?>", "<![CDATA[&e0;]]>")
 FAULTS = ("&#38;", "&#60;", "<b>", "</b>", "&#60;!--", "-->", "&#38;x", "<", "&nope;", "]]>")
 
 
@@ -122,7 +122,8 @@ class Nested(InFolder):
     def test_parameter_entities_that_are_not_whole(self):
         for text in ('<!ENTITY g "', "<!ENTITY g", "<!--", "<!-- -", "<?p", "<", "]", '"', "<!ATTLIST a x CDATA '", ">", "]>"):
             declared = f"<!ENTITY % p '{text.replace(chr(39), '&#39;')}'>"
-            deep = declared + "".join(f"<!ENTITY % q{number} '&#37;{f'q{number - 1}' if number else 'p'};<!ENTITY h &#34;>&#34;> -->?>'>" for number in range(MANY))
+            names = ["p", *(f"q{number}" for number in range(MANY))]
+            deep = declared + "".join(f"<!ENTITY % {outer} '&#37;{inner};<!ENTITY h &#34;>&#34;> -->?>'>" for inner, outer in zip(names, names[1:]))
             with self.subTest(text=text):
                 self.assertEqual(self.converted(f"<!DOCTYPE a [{declared}%p;<!ENTITY h '>'>]><a/>")[1], 2)
                 self.assertEqual(self.converted(f"<!DOCTYPE a [{deep}%q{MANY - 1};]><a/>")[1], 2)

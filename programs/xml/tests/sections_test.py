@@ -23,7 +23,8 @@ class Sections:
         return "".join(self.chance.choice(pieces) for _ in range(length))
 
     def data(self):
-        text = self.body("]", "] ", "x]", ("x", "]", "]]", ">"), '<a b="1">&amp;| ', "\u3042]>x", "\n ", ("<b>", "</b>", "<!--", "-->", "<?", "?>", "<![CDATA["))
+        markup = ("<b>", "</b>", "<!--", "-->", "<?", "?>", "<![CDATA[")
+        text = self.body("]", "] ", "x]", ("x", "]", "]]", ">"), '<a b="1">&amp;| ', "\u3042]>x", "\n ", markup)
         return f"<![CDATA[{text.replace(']]>', '] ]>')}{']' * self.chance.randrange(4)}]]>"
 
     def comment(self):
@@ -110,7 +111,8 @@ class Long(InFolder):
         for document in (f"<a><![CDATA[{long}</a>", f"<a><!--{long}</a>", f"<a><?p {long}</a>", f"<a><!--{long}--{long}--></a>", f"<a><!--{long}---></a>",
                          f"<!DOCTYPE a [<!--{long}]><a/>", f"<a><![CDATA[{long}]]>]]></a>"):
             self.assertEqual(self.judged(document)[1], 2)
-        for document in (f"<!DOCTYPE a [<!--{'<!ENTITY | ' * 200_000}-->]><a/>", f"<a><![CDATA[{'<b a=1 ' * 400_000}]]></a>", f"<!--{long}--><a/><!--{long}-->"):
+        for document in (f"<!DOCTYPE a [<!--{'<!ENTITY | ' * 200_000}-->]><a/>", f"<a><![CDATA[{'<b a=1 ' * 400_000}]]></a>",
+                         f"<!--{long}--><a/><!--{long}-->"):
             self.assertEqual(self.judged(document), ("d.xml: valid\n", 0))
 
     def test_memory(self):
