@@ -39,7 +39,7 @@ objects() { for source in "$@"; do printf '%s ' "$work/$source.o"; done; }
 shared="$parser_parts program"
 rng="rng_tree rng_namespaces rng_grammar rng_uri rng_prefixes rng_words rng_patterns rng_writer"
 hints="schema_asked schema_types schema_tree schema_grammars schema_words schema_restrictions schema_hints schema_datatypes"
-telling="finding expected scope declared near telling alone_schema contexts alone second_reading"
+telling="finding expected scope declared near lists list_fault telling alone_schema contexts alone second_reading"
 merging="schema_walk schema_merging schema_merged_text"
 reading="paths schema_tokens annotation_names schema_annotations xml_names origins $rng catalogs schema_files schema_xml $merging"
 ids="text_table id_form id_types id_check schema_ids named_sets stand_ins schema_controls schema_context"

@@ -119,7 +119,7 @@ static void read_parameters(struct form *form, struct bytes *text) {
 
 /* A datatype with its parameters, or a value. */
 static struct part read_data(struct form *form) {
-    struct part part = {0, PART_PLAIN, ID_NONE, false};
+    struct part part = NO_PART;
     struct bytes text = NO_BYTES;
     struct span name = form->token.text;
     advance(form);
@@ -141,9 +141,14 @@ static struct part read_data(struct form *form) {
     return part;
 }
 
-/* What is mentioned. */
-static struct part read_part(struct form *form) {
-    struct part part = {0, PART_PLAIN, ID_NONE, false};
+/* Where the part ends that was read last. */
+static size_t end_of(const struct form *form) {
+    return form->token.kind == TOKEN_NONE ? form->length : form->token.at;
+}
+
+/* What is mentioned, without its place. */
+static struct part read_mention(struct form *form) {
+    struct part part = NO_PART;
     const struct token *token = &form->token;
     if (token->kind == TOKEN_NAME || is_word(token, "string") || is_word(token, "token")) {
         return read_data(form);
@@ -157,6 +162,15 @@ static struct part read_part(struct form *form) {
         is_strange(form);
     }
     advance(form);
+    return part;
+}
+
+/* What is mentioned. */
+static struct part read_part(struct form *form) {
+    size_t from = form->token.at;
+    struct part part = read_mention(form);
+    part.from = from;
+    part.to = end_of(form);
     return part;
 }
 
@@ -232,7 +246,7 @@ static struct part read_braced(struct form *form) {
 
 /* What is after `=` in the line of a pattern or an element. */
 static struct form_line read_line(struct form *form) {
-    struct form_line line = {{0, PART_PLAIN, ID_NONE, false}, {0, PART_PLAIN, ID_NONE, false}, NO_CLASS, 0, LINE_JOINED, '\0', form->token.at, 0, 0, 0};
+    struct form_line line = {NO_PART, NO_PART, NO_CLASS, 0, LINE_JOINED, '\0', form->token.at, 0, 0, 0};
     bool is_element = is_word(&form->token, "element");
     if (is_element || is_word(&form->token, "attribute")) {
         line.kind = is_element ? LINE_ELEMENT : LINE_ATTRIBUTE;
@@ -262,7 +276,7 @@ static struct form_line read_line(struct form *form) {
     }
     bool is_braced = line.kind == LINE_ELEMENT || line.kind == LINE_ATTRIBUTE;
     line.from = is_braced ? form->from : line.from;
-    line.to = is_braced ? form->to : form->token.kind == TOKEN_NONE ? form->length : form->token.at;
+    line.to = is_braced ? form->to : end_of(form);
     return line;
 }
 

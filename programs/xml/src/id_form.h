@@ -20,7 +20,11 @@ struct part {
     uint8_t kind;
     uint8_t type;  /* the ID-type */
     bool is_item;  /* the datatype of an item of IDREFS, which rncv-profile writes as a list */
+    size_t from;   /* in the text */
+    size_t to;
 };
+
+#define NO_PART {0, PART_PLAIN, ID_NONE, false, 0, 0}
 
 /* What a line of the form says. */
 enum line_kind { LINE_NONE, LINE_ELEMENT, LINE_ATTRIBUTE, LINE_LIST, LINE_REPETITION, LINE_JOINED, LINE_EXCEPT };

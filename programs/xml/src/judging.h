@@ -113,6 +113,7 @@ struct judge {
     rncv_schema asked; /* another handle on it, for questions while a document is in progress */
     struct schema_controls controls; /* of its schema */
     struct declared declared; /* the attributes of the schema */
+    struct declared *form; /* the simple form that its schema was made of, if another judge has it; else NULL */
     struct scope scope; /* the namespaces that are declared at the last start; once the document is invalid, there */
     struct call_room room;
     struct bytes text; /* the first characters of texts directly before the last starts and ends, if they came in pieces */

@@ -55,6 +55,8 @@ static struct second *new_second(struct judge *judge) {
     }
     second->whole.shared = judge->shared;
     second->content.shared = judge->shared;
+    second->whole.form = &second->whole.declared;
+    second->content.form = &second->whole.declared;
     second->is_there = declared_open(&second->whole.declared, &judge->schema) &&
                        alone_schemas_share(judge->shared->alone, &second->whole.declared, true, &second->whole.schema) &&
                        contexts_open(&second->contexts, &second->whole.declared);

@@ -1,6 +1,7 @@
 #include "telling.h"
 
 #include "expected.h"
+#include "list_fault.h"
 #include "near.h"
 #include "schema_asked.h"
 #include "xml_names.h"
@@ -222,16 +223,23 @@ static struct span found_text(const struct words *words) {
     return (struct span){words->found->text.data, words->found->text.length};
 }
 
-/* Says a text in parentheses. */
-static void say_text(struct words *words, struct span text) {
+/* Says a text in quotes. */
+static void say_quoted(struct words *words, struct span text) {
     struct bytes escaped = NO_BYTES;
     add_quoted(&escaped, text);
     size_t length = escaped.length < 2 ? 0 : escaped.length - 2;
-    say(words, " (\"");
+    say(words, "\"");
     add_shown(words->line, length == 0 ? "" : escaped.data + 1, length, SHOWN_CHARACTERS);
-    say(words, "\")");
+    say(words, "\"");
     words->line->failed |= escaped.failed;
     bytes_free(&escaped);
+}
+
+/* Says a text in parentheses. */
+static void say_text(struct words *words, struct span text) {
+    say(words, " (");
+    say_quoted(words, text);
+    say(words, ")");
 }
 
 /* Says a list of texts that each have a zero behind them, and no more than some of them. */
@@ -292,21 +300,6 @@ static void tell_element(struct words *words) {
     if (words->answer->expected_count == 0) {
         say_end(words);
     }
-}
-
-static void tell_incomplete(struct words *words) {
-    const struct expected *expected = &words->expected;
-    words->answer->reason = REASON_INCOMPLETE;
-    say(words, ": ");
-    say_element(words, found_name(words));
-    say(words, " ends too early");
-    add_classes(words, expected, (struct span){"", 0});
-    add_texts(words, expected);
-    sort_items(words->answer);
-    if (words->answer->expected_count == 0) {
-        add_any_text(words, expected);
-    }
-    say_expected(words, ": expected ");
 }
 
 static void tell_text_not_allowed(struct words *words) {
@@ -375,6 +368,91 @@ static const struct wanted_text *only_type(const struct expected *expected) {
     return expected->text_count == 0 ? NULL : first;
 }
 
+/* ---- lists */
+
+/* Whether the token is one of what is expected, if excepts do not count. */
+static bool is_expected(const struct words *words, const struct expected *expected, struct span token) {
+    const struct wanted_text *only = only_type(expected);
+    return only != NULL && is_of_type(words, only, token) && (expected->parameter_count == 0 || is_excepted(words, expected, token));
+}
+
+/* Says what may be in the place of a token, unless that does not tell what is wrong with it. False: nothing was said. */
+static bool say_tokens(struct words *words, const struct list_fault *fault, const char *before) {
+    struct answer tokens = NO_ANSWER;
+    struct words inner = *words;
+    struct expected expected;
+    inner.answer = &tokens;
+    if (expected_open(&expected, (struct span){fault->expected.data, fault->expected.length}) &&
+        (fault->kind == LIST_SHORT || !is_expected(words, &expected, fault->token))) {
+        add_texts(&inner, &expected);
+        sort_items(&tokens);
+        say_expected(&inner, before);
+    }
+    words->line->failed |= expected.failed || tokens.expected.failed;
+    bool is_said = tokens.expected_count > 0;
+    expected_close(&expected);
+    answer_free(&tokens);
+    return is_said;
+}
+
+/* Finds which token of a text of the element is at fault, or of a value of the attribute that is wrong. */
+static void find_token(const struct words *words, struct span text, bool is_cut, struct list_fault *fault) {
+    const struct event_attribute *attribute = finding_attribute(words->found);
+    struct event_name name = {{"", 0}, finding_local(words->found), finding_uri(words->found)};
+    struct list_text list = {&name, attribute == NULL ? NULL : &attribute->name, text, is_cut};
+    list_fault_find(words->judge, &list, fault);
+}
+
+/* Says a text that is no list in parentheses, and which token of it is wrong, if that is found. */
+static void say_no_list(struct words *words, struct span text, bool is_whole) {
+    struct list_fault fault = NO_LIST_FAULT;
+    find_token(words, text, !is_whole, &fault);
+    say(words, " (");
+    say_quoted(words, text);
+    if (fault.kind == LIST_SHORT) {
+        say(words, ": it ends too early");
+        say_tokens(words, &fault, "; expected ");
+    } else if (fault.kind == LIST_WRONG || fault.kind == LIST_LONG) {
+        say(words, ": ");
+        say_quoted(words, fault.token);
+        say(words, " is not allowed here");
+        say(words, fault.kind == LIST_LONG ? "; expected the end of the list" : "");
+        say_tokens(words, &fault, "; expected ");
+    }
+    say(words, ")");
+    bytes_free(&fault.expected);
+}
+
+/* Says which tokens a list may begin with, if it has none. False: nothing was said. */
+static bool say_first_tokens(struct words *words, const char *before) {
+    struct list_fault fault = NO_LIST_FAULT;
+    find_token(words, (struct span){"", 0}, false, &fault);
+    bool is_said = fault.kind == LIST_SHORT && say_tokens(words, &fault, before);
+    bytes_free(&fault.expected);
+    return is_said;
+}
+
+static void tell_incomplete(struct words *words) {
+    const struct expected *expected = &words->expected;
+    bool is_list = false;
+    words->answer->reason = REASON_INCOMPLETE;
+    say(words, ": ");
+    say_element(words, found_name(words));
+    say(words, " ends too early");
+    add_classes(words, expected, (struct span){"", 0});
+    add_texts(words, expected);
+    sort_items(words->answer);
+    if (words->answer->expected_count == 0) {
+        add_any_text(words, expected);
+        is_list = words->answer->expected_count > 0 && say_first_tokens(words, ": expected "); /* an end may come in place of any other text */
+    }
+    if (!is_list) {
+        say_expected(words, ": expected ");
+    }
+}
+
+/* ---- values */
+
 /* Adds what a text may be. If that is only a datatype, it is returned. */
 static const struct wanted_text *add_wanted(struct words *words, const struct expected *expected) {
     const struct wanted_text *only = only_type(expected);
@@ -386,14 +464,23 @@ static const struct wanted_text *add_wanted(struct words *words, const struct ex
     return only;
 }
 
+/* Says that a value is wrong of which not one datatype is expected. A string that no value and no datatype could be is for a list. */
+static void say_of_several(struct words *words, struct span text, bool is_whole) {
+    if (words->answer->expected_count == 0) {
+        say(words, " is no list that the schema allows");
+        say_no_list(words, text, is_whole);
+        return;
+    }
+    say(words, " is wrong");
+    say_text(words, text);
+    say_expected(words, "; expected ");
+}
+
 /* Says that a value is wrong, and what it may be. `is_whole`: the text is not cut. */
 static void say_wrong(struct words *words, const struct expected *expected, struct span text, bool is_whole) {
     const struct wanted_text *only = add_wanted(words, expected);
     if (only == NULL) {
-        /* a string that no value and no datatype could be is for a list */
-        say(words, words->answer->expected_count == 0 ? " is no list that the schema allows" : " is wrong");
-        say_text(words, text);
-        say_expected(words, "; expected ");
+        say_of_several(words, text, is_whole);
         return;
     }
     struct span type = {words->answer->datatype.data, words->answer->datatype.length};
