@@ -111,6 +111,7 @@ static void add_reason(struct bytes *line, const struct answer *answer, const ch
         add_expected(line, answer);
         add_bytes_member(line, "attribute", &answer->attribute);
         add_bytes_member(line, "datatype", &answer->datatype);
+        add_bytes_member(line, "token", &answer->token);
     }
 }
 

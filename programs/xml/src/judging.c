@@ -97,6 +97,7 @@ void answer_free(struct answer *answer) {
     bytes_free(&answer->expected);
     bytes_free(&answer->attribute);
     bytes_free(&answer->datatype);
+    bytes_free(&answer->token);
     for (size_t at = 0; at < answer->note_count; at++) {
         bytes_free(&answer->notes[at].what);
     }

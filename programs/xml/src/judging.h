@@ -60,6 +60,7 @@ struct answer {
     size_t expected_count;
     struct bytes attribute; /* the attribute that is wrong; those that are missing, with a blank between two */
     struct bytes datatype;  /* the name of the one that the value or the text should have had */
+    struct bytes token;     /* the one that is wrong in a list, if that is known */
     struct bytes message; /* what is said about the document, without the place; empty if it is valid */
     struct note *notes;
     size_t note_count;
@@ -71,7 +72,8 @@ struct answer {
 
 /* No verdict yet. It is not VERDICT_VALID, so nothing is valid by accident. */
 #define NO_ANSWER \
-    {VERDICT_FAILED, {0, 0}, STANDS_NOT_KNOWN, NO_BYTES, 0, REASON_NOT_KNOWN, NO_BYTES, 0, NO_BYTES, NO_BYTES, NO_BYTES, NULL, 0, false, NULL, 0, NULL}
+    {VERDICT_FAILED, {0, 0}, STANDS_NOT_KNOWN, NO_BYTES, 0, REASON_NOT_KNOWN, NO_BYTES, 0, NO_BYTES, NO_BYTES, NO_BYTES, NO_BYTES, \
+     NULL, 0, false, NULL, 0, NULL}
 
 struct jobs;
 struct alone_schemas;

@@ -8,7 +8,8 @@
 enum {
     MOST_STEPS = 1000000, /* for one place */
     MOST_CONTENTS = 16,
-    MOST_BYTES = 65536 /* of a schema */
+    MOST_BYTES = 65536, /* of a schema, .. */
+    MOST_TOKENS = 1000  /* .. and elements in it: what begins a list is compared with all else that does */
 };
 
 static void add_part(struct part_list *list, struct part part) {
@@ -140,65 +141,105 @@ bool lists_in(struct declared *declared, struct part content, struct part_list *
 
 /* ---- the schema */
 
-/* A pattern `p3` of the form is `q3` in a list, where each datatype and value has an element around it, and `p3` in an except. */
+/* What a pattern takes: one token in each case, or something else. */
+enum taken { TAKEN_UNKNOWN, TAKEN_TOKEN, TAKEN_OTHER };
+
+/* A pattern `p3` of the form is `q3` in a list, where each token has an element around it, and `p3` in such an element. */
 struct list_writer {
     struct declared *declared;
     struct bytes *text;
-    struct part_list waiting[2]; /* patterns that were mentioned in lists, and in excepts */
-    bool is_except;
+    struct part_list waiting[2]; /* patterns that were mentioned outside of such elements, and inside */
+    uint8_t *taken;              /* by each pattern */
+    uint32_t token_count;
+    bool is_inside;
 };
+
+static enum taken taken_by(const struct list_writer *writer, struct part part) {
+    bool is_token = part.kind != PART_ELEMENT && !is_without_token(writer->declared, part);
+    return part.kind == PART_PATTERN ? (enum taken)writer->taken[part.number] : is_token ? TAKEN_TOKEN : TAKEN_OTHER;
+}
+
+/* Finds what a line takes, if it is no choice or the parts of the choice are known. */
+static enum taken find_taken(const struct list_writer *writer, const struct form_line *line) {
+    if (line->kind != LINE_JOINED || line->sign != '|') {
+        return line->kind == LINE_EXCEPT ? TAKEN_TOKEN : TAKEN_OTHER;
+    }
+    enum taken one = taken_by(writer, line->one);
+    enum taken other = taken_by(writer, line->other);
+    bool is_known = one != TAKEN_UNKNOWN && other != TAKEN_UNKNOWN;
+    return !is_known ? TAKEN_UNKNOWN : one == TAKEN_TOKEN && other == TAKEN_TOKEN ? TAKEN_TOKEN : TAKEN_OTHER;
+}
+
+/* Finds what a pattern takes, after the parts of its choice. */
+static enum taken take_pattern(struct list_writer *writer, struct part part) {
+    struct part_list open = NO_PARTS;
+    add_part(&open, part);
+    while (open.count > 0 && !open.failed && form_step(&writer->declared->form)) {
+        struct part last = open.parts[open.count - 1];
+        const struct form_line *line = line_of(writer->declared, last);
+        enum taken taken = taken_by(writer, last) == TAKEN_UNKNOWN ? find_taken(writer, line) : taken_by(writer, last);
+        if (taken == TAKEN_UNKNOWN) {
+            add_part(&open, taken_by(writer, line->one) == TAKEN_UNKNOWN ? line->one : line->other);
+            continue;
+        }
+        open.count--;
+        if (line != NULL) {
+            writer->taken[last.number] = (uint8_t)taken;
+        }
+    }
+    writer->waiting[0].failed |= open.failed;
+    part_list_free(&open);
+    return taken_by(writer, part);
+}
 
 static void write_span(const struct list_writer *writer, struct span span) {
     bytes_add(writer->text, span.data, span.length);
 }
 
-static void write_mention(struct list_writer *writer, struct part part) {
-    struct span text = text_of(writer->declared, part);
-    bool is_token = !writer->is_except && !is_without_token(writer->declared, part);
-    if (part.kind == PART_PATTERN) {
-        bytes_format(writer->text, writer->is_except ? "p%u" : "q%u", (unsigned)part.number);
-        add_part(&writer->waiting[writer->is_except], part);
-        return;
-    }
-    bytes_add_text(writer->text, is_token ? "element t { " : "");
-    write_span(writer, text);
-    bytes_add_text(writer->text, is_token ? " }" : "");
+/* Writes a pattern by its name, to be written itself later. */
+static void write_name(struct list_writer *writer, struct part part) {
+    bytes_format(writer->text, writer->is_inside ? "p%u" : "q%u", (unsigned)part.number);
+    add_part(&writer->waiting[writer->is_inside], part);
 }
 
-/* Writes a datatype with an except. */
-static void write_except(struct list_writer *writer, const struct form_line *line) {
-    bool is_token = !writer->is_except;
+/* Writes a part; one that takes a token gets an element around it. */
+static void write_mention(struct list_writer *writer, struct part part) {
+    bool is_token = !writer->is_inside && take_pattern(writer, part) == TAKEN_TOKEN;
+    bool was_inside = writer->is_inside;
+    writer->token_count += is_token;
+    writer->is_inside |= is_token;
     bytes_add_text(writer->text, is_token ? "element t { " : "");
-    write_span(writer, text_of(writer->declared, line->one));
-    bytes_add_text(writer->text, " - ");
-    writer->is_except = true;
-    write_mention(writer, line->other);
-    writer->is_except = !is_token;
+    if (part.kind == PART_PATTERN) {
+        write_name(writer, part);
+    } else {
+        write_span(writer, text_of(writer->declared, part));
+    }
     bytes_add_text(writer->text, is_token ? " }" : "");
+    writer->is_inside = was_inside;
 }
 
 static void write_line(struct list_writer *writer, struct part part) {
     const struct form_line *line = line_of(writer->declared, part);
-    bytes_format(writer->text, writer->is_except ? "\np%u = " : "\nq%u = ", (unsigned)part.number);
-    if (line->kind == LINE_EXCEPT) {
-        write_except(writer, line);
-        return;
-    }
+    bytes_format(writer->text, writer->is_inside ? "\np%u = " : "\nq%u = ", (unsigned)part.number);
     write_mention(writer, line->one);
-    if (line->kind == LINE_JOINED) {
-        bytes_format(writer->text, " %c ", line->sign);
+    if (line->kind == LINE_JOINED || line->kind == LINE_EXCEPT) {
+        bytes_format(writer->text, " %c ", line->kind == LINE_EXCEPT ? '-' : line->sign);
         write_mention(writer, line->other);
     } else {
         bytes_add_byte(writer->text, '+');
     }
 }
 
-/* Writes the patterns that were mentioned in lists, or in excepts, each once. */
-static void write_waiting(struct list_writer *writer, bool is_except) {
-    struct part_list *waiting = &writer->waiting[is_except];
-    writer->is_except = is_except;
+static bool is_small(const struct list_writer *writer) {
+    return writer->text->length <= MOST_BYTES && writer->token_count <= MOST_TOKENS;
+}
+
+/* Writes the patterns that were mentioned outside of the elements, or inside, each once. */
+static void write_waiting(struct list_writer *writer, bool is_inside) {
+    struct part_list *waiting = &writer->waiting[is_inside];
+    writer->is_inside = is_inside;
     writer->declared->time++;
-    while (waiting->count > 0 && form_step(&writer->declared->form) && writer->text->length <= MOST_BYTES) {
+    while (waiting->count > 0 && form_step(&writer->declared->form) && is_small(writer)) {
         struct part part = waiting->parts[--waiting->count];
         if (take_line(writer->declared, line_of(writer->declared, part))) {
             write_line(writer, part);
@@ -206,18 +247,27 @@ static void write_waiting(struct list_writer *writer, bool is_except) {
     }
 }
 
-bool lists_schema(struct declared *declared, const struct part_list *lists, struct bytes *text) {
-    struct list_writer writer = {declared, text, {NO_PARTS, NO_PARTS}, false};
-    bytes_add_text(text, "start = element l { ");
-    for (uint32_t at = 0; at < lists->count && text->length <= MOST_BYTES; at++) {
-        bytes_add_text(text, at == 0 ? "" : " | ");
-        write_mention(&writer, lists->parts[at]);
+/* Writes all but the namespaces, which no list has. */
+static void write_all(struct list_writer *writer, const struct part_list *lists) {
+    bytes_add_text(writer->text, "start = element l { ");
+    for (uint32_t at = 0; at < lists->count && is_small(writer); at++) {
+        bytes_add_text(writer->text, at == 0 ? "" : " | ");
+        write_mention(writer, lists->parts[at]);
     }
-    bytes_add_text(text, " }");
-    write_waiting(&writer, false);
-    write_waiting(&writer, true);
-    bool is_whole = is_known(declared, &writer.waiting[0]) && !writer.waiting[1].failed && text->length <= MOST_BYTES;
+    bytes_add_text(writer->text, " }");
+    write_waiting(writer, false);
+    write_waiting(writer, true);
+}
+
+bool lists_schema(struct declared *declared, const struct part_list *lists, struct bytes *text) {
+    uint8_t *taken = calloc(declared->form.pattern_count + 1, sizeof *taken);
+    struct list_writer writer = {declared, text, {NO_PARTS, NO_PARTS}, taken, 0, false};
+    if (taken != NULL) {
+        write_all(&writer, lists);
+    }
+    bool is_whole = taken != NULL && is_known(declared, &writer.waiting[0]) && !writer.waiting[1].failed && is_small(&writer);
     part_list_free(&writer.waiting[0]);
     part_list_free(&writer.waiting[1]);
+    free(taken);
     return is_whole && !text->failed;
 }

@@ -415,6 +415,7 @@ static void say_no_list(struct words *words, struct span text, bool is_whole) {
     } else if (fault.kind == LIST_WRONG || fault.kind == LIST_LONG) {
         say(words, ": ");
         say_quoted(words, fault.token);
+        bytes_add(&words->answer->token, fault.token.data, fault.token.length);
         say(words, " is not allowed here");
         say(words, fault.kind == LIST_LONG ? "; expected the end of the list" : "");
         say_tokens(words, &fault, "; expected ");
@@ -668,7 +669,7 @@ static bool open_expected(struct expected *expected, const struct bytes *written
 static bool has_failed(const struct words *words) {
     const struct answer *answer = words->answer;
     return words->near.failed || words->expected.failed || words->in_place.failed || words->tag.failed || words->options.failed ||
-           answer->expected.failed || answer->attribute.failed || answer->datatype.failed;
+           answer->expected.failed || answer->attribute.failed || answer->datatype.failed || answer->token.failed;
 }
 
 void tell(struct judge *judge, const struct finding *found, struct answer *answer) {

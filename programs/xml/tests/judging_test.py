@@ -40,7 +40,8 @@ class Lines(InFolder):
         self.invalid("element a { element b { xsd:integer } }", "<a>\n <b>12x</b></a>", '2:5: invalid: the text of <b> is no xsd:integer ("12x")')
         self.invalid("element a { element b { xsd:integer } }", "<a>\n <b><!-- 1 -->1<![CDATA[\n2]]>\n</b></a>", '2:15: invalid: the text of <b> is no xsd:integer ("1\\n2\\n")')
         self.invalid('element a { element b { "x" } }', "<a>\n <b/></a>", '2:2: invalid: <b> ends too early: expected "x"')
-        self.invalid("element a { list { xsd:integer+ } }", "<a>1 x</a>", '1:4: invalid: the text of <a> is no list that the schema allows ("1 x")')
+        self.invalid("element a { list { xsd:integer+ } }", "<a>1 x</a>", '1:4: invalid: the text of <a> is no list that the schema allows '
+                     '("1 x": "x" is not allowed here; expected xsd:integer)')
         self.invalid("element a { element b { empty }, element c { empty } }", "<a>\n <b/>\n </a>", "3:2: invalid: <a> ends too early: expected <c>")
         self.invalid("element a { mixed { element b { empty } } }", "<a>\n text </a>", "2:7: invalid: <a> ends too early: expected <b>")
         self.invalid("element a { element b { empty }* }", "<a>\n <b/> text <b/></a>", '2:7: invalid: text is not allowed in <a> ("text "); expected <b>')
@@ -70,7 +71,7 @@ class Lines(InFolder):
 
     def test_a_text_that_is_not_allowed_at_an_end(self):
         """The text before an end tag is told if it is wrong whatever follows it, and the end if something is missing after it."""
-        text, end = r'2:5: invalid: .* \("two"\)', "2:8: invalid: <i> ends too early: expected "
+        text, end = r'2:5: invalid: .* \("two"[):]', "2:8: invalid: <i> ends too early: expected "
         for content, reported in (("empty", text), ("element j { empty }", text), ("element j { empty }*", text), ("element j { empty }, text", text),
                               ("xsd:NCName { minLength = '100' }", text), ("xsd:NCName { minLength = '100' } | element j { empty }", text),
                               ("list { xsd:NCName, xsd:integer, xsd:integer, xsd:integer }", text), ("attribute x { text }?", text),
