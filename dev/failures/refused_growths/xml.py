@@ -61,6 +61,7 @@ FILES = {
     "wide.xml": "<a x='1' y='2'/>\n", "choices.xml": "<!DOCTYPE a [<!ATTLIST a x (p|q) 'p'>]><a/>\n",
     "lacks.xml": "<a><b y='2'/></a>\n", "before.xml": "<a><c>some<d xmlns:q='u'/></c></a>\n", "early.xml": "<a><c xmlns:q='u'/></a>\n",
     "long.xml": "<a>" + "some words\n" * 15_000 + "</a>\n",
+    "lists.rnc": 'element a { attribute x { list { "1"+ } }, list { xsd:int, (xsd:int - xsd:int "3")+ } }\n', "lists.xml": '<a x="1 2">1 3</a>\n',
     "list": "good.xml\nbad.xml\n", "zeros": "good.xml\0none.xml\0", "large.xml": "<a>" + "<!-- some words -->\n" * 15_000 + "<b/></a>\n",
 }
 # What libxml2 writes to standard error where it has no memory for the values of a thread. Whether a thread has a document to read is a matter of time.
@@ -82,6 +83,7 @@ CASES = (
     (1, "rncv-xml -j1 --all --max-faults 1 tags.rnc value.xml name.xml lacks.xml before.xml early.xml"),
     (1, "rncv-xml -j1 --all hints.rnc control.xml"),
     (1, "rncv-xml -j1 --all i.rnc long.xml"),
+    (1, "rncv-xml -j1 --all lists.rnc lists.xml"),
     (1, "rncv-xml -j1 --format json hints.rnc hints.xml"),
     (2, "rncv-xml -j1 --all e.rnc cut.xml clause.xml"),
     (2, "rncv-xml -j1 --all e.rnc dtd.xml outside.xml"),
