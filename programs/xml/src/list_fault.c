@@ -80,7 +80,7 @@ static enum list_fault_kind pass_end(struct list_search *search, struct bytes *e
 
 /* Passes the tokens up to the first one at fault. */
 static void pass_tokens(struct list_search *search, const struct list_text *text, struct list_fault *fault) {
-    struct span left = text->is_cut ? whole_tokens(text->text) : text->text.length == 0 ? (struct span){"", 0} : text->text;
+    struct span left = text->is_cut ? whole_tokens(text->text) : text->text;
     fault->kind = LIST_GOOD;
     while (fault->kind == LIST_GOOD && (fault->token = take_token(&left)).length > 0) {
         fault->kind = pass_token(search, fault->token);

@@ -45,20 +45,25 @@ static bool take_line(const struct declared *declared, struct form_line *line) {
     return is_new;
 }
 
-/* Finds what is in a part below groups, choices, interleaves and repetitions. */
-static void find_inside(struct declared *declared, struct part part, struct part_list *inside) {
+/* Whether a search goes on below a line: a choice or a repetition, and if it is deep a group or an interleave. */
+static bool goes_below(const struct form_line *line, bool is_deep) {
+    return line->kind == LINE_REPETITION || (line->kind == LINE_JOINED && (is_deep || line->sign == '|'));
+}
+
+/* Finds what is in a part below choices and repetitions, and if the search is deep below groups and interleaves. */
+static void find_inside(struct declared *declared, struct part part, bool is_deep, struct part_list *inside) {
     struct part_list waiting = NO_PARTS;
     declared->time++;
     add_part(&waiting, part);
     while (waiting.count > 0 && form_step(&declared->form)) {
         struct part next = waiting.parts[--waiting.count];
         struct form_line *line = line_of(declared, next);
-        bool is_joined = line != NULL && (line->kind == LINE_JOINED || line->kind == LINE_REPETITION);
+        bool is_below = line != NULL && goes_below(line, is_deep);
         if (line != NULL && !take_line(declared, line)) {
             continue;
         }
-        add_part(is_joined ? &waiting : inside, is_joined ? line->one : next);
-        if (is_joined && line->kind == LINE_JOINED) {
+        add_part(is_below ? &waiting : inside, is_below ? line->one : next);
+        if (is_below && line->kind == LINE_JOINED) {
             add_part(&waiting, line->other);
         }
     }
@@ -80,7 +85,7 @@ static void add_content(struct part_list *contents, struct part content) {
 /* Adds what may be in the attributes of an element that may have the name. */
 static void add_values(struct declared *declared, struct part content, const struct event_name *name, struct part_list *contents) {
     struct part_list inside = NO_PARTS;
-    find_inside(declared, content, &inside);
+    find_inside(declared, content, true, &inside);
     for (uint32_t at = 0; at < inside.count; at++) {
         const struct form_line *line = line_of(declared, inside.parts[at]);
         if (line != NULL && line->kind == LINE_ATTRIBUTE && form_class_has(&declared->form, line->class, name->uri, name->local)) {
@@ -89,6 +94,38 @@ static void add_values(struct declared *declared, struct part content, const str
     }
     contents->failed |= inside.failed;
     part_list_free(&inside);
+}
+
+/* Adds a part if a list is in its choices. The parts of groups and interleaves in them wait. */
+static void add_choice(struct declared *declared, struct part part, struct part_list *waiting, struct part_list *contents) {
+    struct part_list inside = NO_PARTS;
+    bool has_list = false;
+    find_inside(declared, part, false, &inside);
+    for (uint32_t at = 0; at < inside.count; at++) {
+        const struct form_line *line = line_of(declared, inside.parts[at]);
+        has_list |= line != NULL && line->kind == LINE_LIST;
+        if (line != NULL && line->kind == LINE_JOINED) {
+            add_part(waiting, line->one);
+            add_part(waiting, line->other);
+        }
+    }
+    if (has_list) {
+        add_content(contents, part);
+    }
+    contents->failed |= inside.failed;
+    part_list_free(&inside);
+}
+
+/* Adds what the text of an element may be. What is beside different attributes is added by itself, since its lists may exclude one another. */
+static void add_texts(struct declared *declared, struct part content, struct part_list *contents) {
+    struct part_list waiting = NO_PARTS;
+    add_part(&waiting, content);
+    while (waiting.count > 0 && contents->count <= MOST_CONTENTS && form_step(&declared->form)) {
+        struct part part = waiting.parts[--waiting.count];
+        add_choice(declared, part, &waiting, contents);
+    }
+    contents->failed |= waiting.failed;
+    part_list_free(&waiting);
 }
 
 bool lists_contents(struct declared *declared, const struct event_name *element, const struct event_name *attribute, struct part_list *contents) {
@@ -102,7 +139,7 @@ bool lists_contents(struct declared *declared, const struct event_name *element,
             continue;
         }
         if (attribute == NULL) {
-            add_content(contents, line->one);
+            add_texts(declared, line->one, contents);
         } else {
             add_values(declared, line->one, attribute, contents);
         }
@@ -126,7 +163,7 @@ static bool is_other_text(const struct declared *declared, struct part part) {
 bool lists_in(struct declared *declared, struct part content, struct part_list *lists) {
     uint32_t kept = 0;
     bool has_other = false;
-    find_inside(declared, content, lists);
+    find_inside(declared, content, false, lists);
     for (uint32_t at = 0; at < lists->count; at++) {
         struct part part = lists->parts[at];
         const struct form_line *line = line_of(declared, part);

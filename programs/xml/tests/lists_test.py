@@ -221,6 +221,19 @@ class Lists(InFolder):
         self.assertEqual(self.message(either, '<a t="two" v="x 1"/>'), ': "x" is not allowed here; expected xsd:integer)')
         self.assertEqual(self.message(either, '<a t="one" v="1 2"/>'), 'attribute v of <a> does not go with the others ("1 2")')
 
+    def test_texts_beside_attributes(self):
+        """What only one of the alternatives has is not told."""
+        either = 'element a {{ (attribute t {{ "one" }}, list {{ xsd:integer, {} }}) | (attribute t {{ "two" }}, attribute u {{ text }}?, list {{ xsd:date, {} }}) }}'
+        either = either.format("(xsd:boolean | xsd:NCName)", "xsd:boolean")
+        self.assertEqual(self.message(either, '<a t="two">x</a>'), ': "x" is not allowed here)')
+        self.assertEqual(self.message(either, '<a t="two">1</a>'), ")")
+        self.assertEqual(self.message(either, '<a t="two"/>'), "<a> ends too early: expected text")
+        both = "element a { attribute t { text }?, attribute u { text }, (list { xsd:integer } | list { xsd:date, xsd:date }) }"
+        self.assertEqual(self.message(both, '<a u="1">x</a>'), ': "x" is not allowed here; expected xsd:date or xsd:integer)')
+        self.assertEqual(self.message(both, '<a u="1">2002-11-21</a>'), ": it ends too early; expected xsd:date)")
+        self.assertEqual(self.message("element a { list { xsd:integer } | (attribute t { text }, list { xsd:int }) }", "<a>1 2</a>"),
+                         ': "2" is not allowed here; expected the end of the list)')
+
     def test_names(self):
         self.assertEqual(self.message("element * { attribute * { list { xsd:integer+ } }+ }", '<a v="1" w="2 x"/>'),
                          ': "x" is not allowed here; expected xsd:integer)')
