@@ -215,16 +215,16 @@ class Lists(InFolder):
                          'the text of <b> is no xsd:date ("x")')
 
     def test_attributes_that_go_together(self):
-        either = 'element a {{ (attribute t {{ "one" }}, attribute v {{ list {{ {0} }} }}) | (attribute t {{ "two" }}, attribute v {{ list {{ {0}, {0} }} }}) }}'
-        either = either.format("xsd:integer")
+        either = ('element a { (attribute t { "one" }, attribute v { list { xsd:integer } }) | '
+                  '(attribute t { "two" }, attribute v { list { xsd:integer, xsd:integer } }) }')
         self.assertEqual(self.message(either, '<a t="two" v="1 x"/>'), ")")
         self.assertEqual(self.message(either, '<a t="two" v="x 1"/>'), ': "x" is not allowed here; expected xsd:integer)')
         self.assertEqual(self.message(either, '<a t="one" v="1 2"/>'), 'attribute v of <a> does not go with the others ("1 2")')
 
     def test_texts_beside_attributes(self):
         """What only one of the alternatives has is not told."""
-        either = 'element a {{ (attribute t {{ "one" }}, list {{ xsd:integer, {} }}) | (attribute t {{ "two" }}, attribute u {{ text }}?, list {{ xsd:date, {} }}) }}'
-        either = either.format("(xsd:boolean | xsd:NCName)", "xsd:boolean")
+        either = ('element a { (attribute t { "one" }, list { xsd:integer, (xsd:boolean | xsd:NCName) }) | '
+                  '(attribute t { "two" }, attribute u { text }?, list { xsd:date, xsd:boolean }) }')
         self.assertEqual(self.message(either, '<a t="two">x</a>'), ': "x" is not allowed here)')
         self.assertEqual(self.message(either, '<a t="two">1</a>'), ")")
         self.assertEqual(self.message(either, '<a t="two"/>'), "<a> ends too early: expected text")
