@@ -87,10 +87,11 @@ void nest_parameter(struct declarations *declarations, const xmlEntity *entity) 
         fault_set(declarations->feed->fault, FAULT_MALFORMED, declarations_place(declarations), "malformed XML: recursive entity reference");
     } else if (nested->count > 0 && nested->count + LEVELS_OF_LIBXML2 >= declarations->feed->most_depth) {
         feed_refuse(declarations->feed, declarations_place(declarations), too_many_entities, declarations->feed->most_depth, "--max-depth");
-    } else if (make_room(declarations, input, text.length)) {
+    } else if (make_room(declarations, input, text.length + 1)) {
         open_read(declarations, entity, left_of(input));
-        input->cur -= text.length;
+        input->cur -= text.length + 1;
         memcpy((xmlChar *)input->cur, text.data, text.length);
+        ((xmlChar *)input->cur)[text.length] = ' '; /* an external DTD may have names directly behind it (XML 1.0, 4.4.8) */
         declarations_flatten(declarations, (char *)input->cur, text.length);
         input->base = input->cur; /* nothing is before it */
         input->consumed++;        /* libxml2 takes it for an error if nothing is read */

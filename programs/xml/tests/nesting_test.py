@@ -128,6 +128,14 @@ class Nested(InFolder):
                 self.assertEqual(self.converted(f"<!DOCTYPE a [{declared}%p;<!ENTITY h '>'>]><a/>")[1], 2)
                 self.assertEqual(self.converted(f"<!DOCTYPE a [{deep}%q{MANY - 1};]><a/>")[1], 2)
 
+    def test_names_beside_a_parameter_entity_stay_apart(self):
+        declared = '<!ENTITY % n "x"><!ENTITY % p "<!ATTLIST a &#37;n;y CDATA \'w\'>">'
+        chained = "".join(f"<!ENTITY % q{number} '&#37;{f'q{number - 1}' if number else 'p'};'>" for number in range(MANY))
+        for used in ("%p;", chained + f"%q{MANY - 1};"):
+            self.write("d.dtd", declared + used)
+            self.write("d.xml", '<!DOCTYPE a SYSTEM "d.dtd"><a/>')
+            self.assertEqual(self.run_in(XML2PYX, "--dtd", "d.xml")[2], 2)
+
 
 class Limits(InFolder):
     """What `--max-depth` and `--max-memory` allow."""
