@@ -228,6 +228,15 @@ static void refuse_part(struct declarations *declarations, const char *what) {
     feed_refuse(declarations->feed, declarations_place(declarations), what, part_of_memory(declarations), "--max-memory");
 }
 
+/* Counts bytes of texts that are written for libxml2. False: they are too many. */
+static bool count_written(struct declarations *declarations, uint64_t bytes) {
+    declarations->written += bytes;
+    if (declarations->written > part_of_memory(declarations)) {
+        refuse_part(declarations, "entities in entities have more than %s bytes");
+    }
+    return declarations->written <= part_of_memory(declarations);
+}
+
 /* Whether so many defaults are too many. Then the document is refused. libxml2 compares them in pairs for each tag, so there may be fewer than attributes of a
  * tag, unless the user allows more of those than usual. */
 static bool are_too_many(struct declarations *declarations, uintptr_t count, const char *what) {
@@ -511,6 +520,9 @@ xmlEntityPtr declarations_entity_of(struct declarations *declarations, struct sp
 }
 
 xmlChar *declarations_room(struct declarations *declarations, size_t size) {
+    if (!count_written(declarations, size)) {
+        return NULL;
+    }
     struct twin *twin = new_twin(declarations);
     xmlChar *room = twin == NULL ? NULL : malloc(size);
     if (room == NULL) {
@@ -588,11 +600,9 @@ static bool give_text(void *context, struct span name, bool is_in_value, struct 
     if (!may_be_put(declarations, entity, is_in_value) || !count_reference(declarations, entity)) {
         return false;
     }
-    declarations->written += (uint64_t)entity->length;
+    count_written(declarations, (uint64_t)entity->length);
     if (declarations->open_count > most_levels(declarations)) {
         refuse_levels(declarations);
-    } else if (declarations->written > part_of_memory(declarations)) {
-        refuse_part(declarations, "entities in entities have more than %s bytes");
     }
     open_twin(declarations, entity->_private);
     *text = text_of(entity);

@@ -167,6 +167,14 @@ class Limits(InFolder):
         self.assertEqual(self.judged(document, "--max-memory", "10M"), (limit, 2))
         self.assertEqual(self.judged(document), ("valid", 0))
 
+    def test_room_for_parameter_entities(self):
+        texts = ("&#37;q;" + " " * 100_000, "&#37;p0;", "&#37;p1;", "&#37;p2;" * 60, *(f"&#37;p{number};" for number in range(3, 501)))
+        declared = "<!ENTITY % q '<!ENTITY g &#34;&#34;>'>" + "".join(f"<!ENTITY % p{number} '{text}'>" for number, text in enumerate(texts))
+        limit = "over a limit of this program: entities in entities have more than 2,621,440 bytes (--max-memory)"
+        document = f"<!DOCTYPE a [<!-- {'x' * 1_000_000} -->{declared}%p{len(texts) - 1};]><a/>"
+        self.assertEqual(self.judged(document, "--max-memory", "20M"), (limit, 2))
+        self.assertEqual(self.judged(document), ("valid", 0))
+
 
 if __name__ == "__main__":
     unittest.main()
