@@ -446,6 +446,12 @@ static void flatten(struct declarations *declarations, struct twin *twin) {
     declarations_flatten(declarations, (char *)twin->entity.content, strlen((const char *)twin->entity.content));
 }
 
+/* Forgets how many entities are in one another: that was found out for values by default, and entities that were not declared then may be now. */
+static void forget_heights(struct declarations *declarations) {
+    xmlHashFree(declarations->heights, NULL);
+    declarations->heights = NULL;
+}
+
 /* The external entity as an internal one. It is read once. */
 static xmlEntityPtr loaded(struct declarations *declarations, xmlEntityPtr entity, xmlEntityType type) {
     struct twin *twin = entity->_private;
@@ -458,6 +464,7 @@ static xmlEntityPtr loaded(struct declarations *declarations, xmlEntityPtr entit
 
 void declarations_external(struct declarations *declarations, const xmlChar *name, const xmlChar *public, const xmlChar *system) {
     struct feed *feed = declarations->feed;
+    forget_heights(declarations);
     /* a parameter entity that was not read comes before the external DTD */
     if (feed->fault->kind != FAULT_NONE || !loads(declarations) || (public == NULL && system == NULL)) {
         return;
@@ -467,6 +474,7 @@ void declarations_external(struct declarations *declarations, const xmlChar *nam
     feed->parser->loadsubset = XML_DETECT_IDS;
     xmlSAX2ExternalSubset(feed->parser, name, public, system);
     feed->is_away = false;
+    forget_heights(declarations);
 }
 
 xmlParserInputPtr declarations_input(struct declarations *declarations, const xmlChar *public, const xmlChar *system) {

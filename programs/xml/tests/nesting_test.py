@@ -100,6 +100,12 @@ class Nested(InFolder):
         chained = "".join(f"<!ENTITY e{number + 1} 'x&e{number};'>" for number in reversed(range(MANY)))
         self.assertEqual(self.converted(f"<!DOCTYPE a [{chained}<!ENTITY e0 ''>]><a>&e{MANY};</a>"), (f"(a\n-{'x' * MANY}\n)a\n", 0))
 
+    def test_entities_that_are_declared_behind_a_default(self):
+        first, last = chain("e", 450, "&f;"), chain("f", 450, "v")
+        others = "".join(f"<!ENTITY g{number} '&lt;'>" for number in range(100))
+        declared = f"<!ENTITY % p ''>%p;{others}{first}<!ATTLIST a x CDATA '&e;'>{last}"
+        self.assertEqual(self.converted(f"<!DOCTYPE a [{declared}]><a>&e;</a>"), ("(a\nAx \n-v\n)a\n", 0))
+
     def test_loops(self):
         for count in (1, 499, MANY, 9_000):
             loop = "".join(f"<!ENTITY e{number} '&e{(number + 1) % count};'>" for number in range(count))
