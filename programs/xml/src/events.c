@@ -951,8 +951,18 @@ static void take_undeclared(struct reader *reader, const char *name) {
     }
 }
 
+/* Whether libxml2 may only have come to its own limit on entities in one another: heights (entity_heights.h) leave external ones out. */
+static bool may_be_limit(const struct reader *reader, const parser_error *error) {
+    return error->code == XML_ERR_ENTITY_LOOP && reader->declarations.loaded > 0;
+}
+
 static void take_malformed(struct reader *reader, parser_error *error) {
     struct bytes words = NO_BYTES;
+    if (may_be_limit(reader, error)) {
+        fault_set(reader->fault, FAULT_OUTSIDE, error_place(reader, error),
+                  "an entity is in itself, or over a limit of this program: entities in one another, with external ones: outside the profile");
+        return;
+    }
     add_words(&words, error);
     const char *text = bytes_text(&words);
     if (words.failed) {

@@ -142,6 +142,13 @@ class Nested(InFolder):
             self.write("d.xml", '<!DOCTYPE a SYSTEM "d.dtd"><a/>')
             self.assertEqual(self.run_in(XML2PYX, "--dtd", "d.xml")[2], 2)
 
+    def test_an_external_entity_between_many(self):
+        self.write("d.ent", "&f;")
+        self.write("d.xml", f"<!DOCTYPE a [{chain('e', 400, '&x;')}<!ENTITY x SYSTEM 'd.ent'>{chain('f', 400, 'v')}]><a>&e;</a>")
+        reported = self.run_in(XML2PYX, "--dtd", "d.xml")[1]
+        self.assertIn("over a limit of this program", reported)
+        self.assertNotIn("malformed", reported)
+
 
 class Limits(InFolder):
     """What `--max-depth` and `--max-memory` allow."""
