@@ -1,6 +1,7 @@
 #include "entity_balance.h"
 
 #include "entity_text.h"
+#include "parser_words.h"
 
 #include <libxml/parser.h>
 #include <libxml/parserInternals.h>
@@ -22,6 +23,11 @@ static void close_nothing(void *context) {
     (void)context;
 }
 
+static void take_error(void *context, parser_error *error) {
+    (void)context;
+    stop_in_comment(error);
+}
+
 /* Whether it is a well-formed document. */
 static bool is_document(const char *text, size_t length) {
     xmlParserCtxtPtr parser = length > INT_MAX ? NULL : xmlCreateMemoryParserCtxt(text, (int)length);
@@ -30,6 +36,7 @@ static bool is_document(const char *text, size_t length) {
     }
     memset(parser->sax, 0, sizeof *parser->sax);
     parser->sax->initialized = XML_SAX2_MAGIC;
+    parser->sax->serror = take_error;
     xmlCtxtUseOptions(parser, XML_PARSE_HUGE | XML_PARSE_NONET | XML_PARSE_IGNORE_ENC);
     xmlParseDocument(parser);
     bool is_well_formed = parser->wellFormed;

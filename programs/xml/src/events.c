@@ -1028,6 +1028,7 @@ static void stop_subset(struct reader *reader) {
 static void take_error(void *context, parser_error *error) {
     struct reader *reader = current;
     (void)context;
+    stop_in_comment(error);
     if (is_of_validity(error) || reader->fault->kind != FAULT_NONE) {
         return;
     }

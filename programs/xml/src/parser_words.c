@@ -29,6 +29,13 @@ bool is_limit(parser_error *error) {
     return error->domain == XML_FROM_PARSER && (is_deep || error->code == XML_ERR_NAME_TOO_LONG || error->code == XML_ERR_URI_FRAGMENT);
 }
 
+void stop_in_comment(parser_error *error) {
+    xmlParserCtxtPtr parser = error->ctxt;
+    if (error->domain == XML_FROM_PARSER && error->code == XML_ERR_HYPHEN_IN_COMMENT && parser != NULL) {
+        parser->instate = XML_PARSER_EOF;
+    }
+}
+
 /* Whether a literal is too long, and not a name. */
 static bool is_of_literal(const parser_error *error) {
     return strcmp(known(error->str1), "SystemLiteral") == 0 || strcmp(known(error->str1), "Public ID") == 0;

@@ -25,6 +25,9 @@ bool takes_prefix_back(const parser_error *error);
 bool is_limit(parser_error *error);
 const char *limit_words(parser_error *error);
 
+/* Ends the reading at a fault of a comment. For each further one libxml2 would copy what it has of the comment. */
+void stop_in_comment(parser_error *error);
+
 /* Adds what the error says. */
 void add_words(struct bytes *line, parser_error *error);
 

@@ -1,6 +1,7 @@
 """Tests of entities in one another, of which libxml2 reads some 500: below as many others an entity gives what it gives by itself."""
 import os
 import random
+import time
 import unittest
 
 from testing import RNCV_XML, XML2PYX, InFolder
@@ -148,6 +149,14 @@ class Nested(InFolder):
         reported = self.run_in(XML2PYX, "--dtd", "d.xml")[1]
         self.assertIn("over a limit of this program", reported)
         self.assertNotIn("malformed", reported)
+
+    def test_faults_of_a_comment_take_no_time(self):
+        text = "<!-- " + "-- x" * 200_000 + "-->"
+        for document in (f"<!DOCTYPE a [<!ENTITY e '{text}'>]><a>&e;</a>", f"<!DOCTYPE a [<!ENTITY % p '{text}'>%p;]><a/>",
+                         f"<!DOCTYPE a [{chain('e', MANY, text)}]><a>&e;</a>"):
+            began = time.monotonic()
+            self.assertRegex(self.fault(document), "Double hyphen within comment")
+            self.assertLess(time.monotonic() - began, 20)
 
 
 class Limits(InFolder):
