@@ -13,7 +13,7 @@ enum {
 
 static const char NEXT_LINE_BEGINS = '\xC2'; /* in UTF-8 */
 
-const char read_as_java[] = "a code of this encoding is read as Java reads it; other programs read another character, or none";
+const char read_as_java[] = "a code of this encoding is read as Java or browsers read it; other programs read another character, or none";
 
 static const char not_as_declared[] = "malformed XML: the document is not in the encoding that its declaration names";
 

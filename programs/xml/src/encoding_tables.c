@@ -46,7 +46,12 @@ static const unsigned short urdu_of_ebcdic[] = {
     0x5C, 0xFBAA, 0x53, 0x54, 0x55, 0x56, 0x57, 0x58, 0x59, 0x5A, 0xFE80, 0xFE89, 0xFE8A, 0xFE8B, 0xFBFC, 0xFBFD,
     0x30, 0x31, 0x32, 0x33, 0x34, 0x35, 0x36, 0x37, 0x38, 0x39, 0xFBFE, 0xFBB0, 0xFBAE, 0xFE7C, 0xFE7D, 0x9F,
 };
-static const unsigned short *const lists[] = {urdu, urdu_of_ebcdic};
+static const unsigned short more_of_big5[] = {
+    0x7881, 0x92B9, 0x88CF, 0x58BB, 0x6052, 0x7CA7, 0x5AFA, 0x2554, 0x2566, 0x2557, 0x2560, 0x256C, 0x2563, 0x255A,
+    0x2569, 0x255D, 0x2552, 0x2564, 0x2555, 0x255E, 0x256A, 0x2561, 0x2558, 0x2567, 0x255B, 0x2553, 0x2565, 0x2556,
+    0x255F, 0x256B, 0x2562, 0x2559, 0x2568, 0x255C, 0x2551, 0x2550, 0x256D, 0x256E, 0x2570, 0x256F, 0xFFED,
+};
+static const unsigned short *const lists[] = {urdu, urdu_of_ebcdic, more_of_big5};
 
 const char *encoding_table(const char *encoding) {
     static const struct {
@@ -96,7 +101,6 @@ const char *encoding_table(const char *encoding) {
         {"shift-jis", "SHIFT_JIS"},
         {"shiftjisx0213", "SHIFT_JISX0213"},
         {"sjis", "SHIFT_JIS"},
-        {"tis-620", "ISO-8859-11"}, /* the same with a no-break space, which programs read */
         {"ujis", "EUC-JP"},
         {"windows-936", "GBK"},
     };
@@ -133,6 +137,7 @@ unsigned encoding_number(const char *table) {
                  {"iso-2022-kr", ISO_2022_KR},
                  {"shift_jis", SHIFT_JIS},
                  {"shift_jisx0213", SHIFT_JISX0213},
+                 {"tis-620", TIS_620},
                  {"x0201", JIS_X0201}};
     unsigned number = 0;
     for (size_t at = 0; at < sizeof prefixes / sizeof *prefixes && number == 0; at++) {
@@ -148,7 +153,7 @@ const char *encoding_part(unsigned number) {
     static const struct {
         unsigned number;
         const char *part;
-    } parts[] = {{ISO_2022_CN, "GB2312"}, {ISO_2022_JP, "EUC-JP"}, {ISO_2022_KR, "EUC-KR"}, {JIS_X0201, "SHIFT_JIS"}};
+    } parts[] = {{ISO_2022_CN, "GB2312"}, {ISO_2022_JP, "EUC-JP"}, {ISO_2022_KR, "EUC-KR"}, {JIS_X0201, "SHIFT_JIS"}, {TIS_620, "ISO-8859-11"}};
     for (size_t at = 0; at < sizeof parts / sizeof *parts; at++) {
         if (number == parts[at].number) {
             return parts[at].part;
@@ -198,10 +203,13 @@ const struct correction *encoding_corrections(unsigned number) {
         {URDU_OF_EBCDIC, 0x40, 0xFF, LISTED | 1},
         {1026, 0x9D, 0x9D, 0xB8},
         {1026, 0xBC, 0xBC, 0xAF},
+        {BIG5, 0x80, 0x80, 0},
         {BIG5, 0xA145, 0xA145, 0x2022},
         {BIG5, 0xA14E, 0xA14E, 0xFF64},
         {BIG5, 0xA15A, 0xA15A, 0xFF3F},
         {BIG5, 0xA1C2, 0xA1C2, 0x203E},
+        {BIG5, 0xA1C3, 0xA1C3, DOUBT | 0xFFE3},
+        {BIG5, 0xA1C5, 0xA1C5, DOUBT | 0x02CD},
         {BIG5, 0xA1E3, 0xA1E3, 0x223C},
         {BIG5, 0xA1F2, 0xA1F2, 0x2641},
         {BIG5, 0xA1F3, 0xA1F3, 0x2609},
@@ -211,6 +219,7 @@ const struct correction *encoding_corrections(unsigned number) {
         {BIG5, 0xA242, 0xA242, 0xFF3C},
         {BIG5, 0xA244, 0xA244, 0x00A5},
         {BIG5, 0xA246, 0xA247, 0x00A2},
+        {BIG5, 0xA3E1, 0xA3E1, DOUBT | 0x20AC},
         {BIG5, 0xC6A1, 0xC6A1, 0x30FE},
         {BIG5, 0xC6A2, 0xC6A3, 0x309D},
         {BIG5, 0xC6A4, 0xC6A4, 0x3005},
@@ -229,6 +238,7 @@ const struct correction *encoding_corrections(unsigned number) {
         {BIG5, 0xC7FD, 0xC7FE, 0},
         {BIG5, 0xC840, 0xC87E, 0},
         {BIG5, 0xC8A1, 0xC8FE, 0},
+        {BIG5, 0xF9D6, 0xF9FE, DOUBT | LISTED | 2},
         {GB18030, 0xFE51, 0xFE53, DOUBT | 0xE816},
         {GB18030, 0xFE6C, 0xFE6C, DOUBT | 0xE831},
         {GB18030, 0xFE76, 0xFE76, DOUBT | 0xE83B},
@@ -246,6 +256,7 @@ const struct correction *encoding_corrections(unsigned number) {
         {GB18030, 0x84318238, 0x84318238, DOUBT | 0xE78E},
         {GB18030, 0x84318239, 0x84318239, DOUBT | 0xE790},
         {GB18030, 0x84318330, 0x84318335, DOUBT | 0xE791},
+        {GBK, 0x80, 0x80, DOUBT | 0x20AC},
         {GBK, 0xA140, 0xA7A0, 0xE4C6},
         {GBK, 0xA2AB, 0xA2B0, DOUBT | 0xE766},
         {GBK, 0xA2E3, 0xA2E3, 0x20AC},
@@ -281,6 +292,7 @@ const struct correction *encoding_corrections(unsigned number) {
         {JIS_X0201, 0x7E, 0x7E, DOUBT | 0x7E},
         {JIS_X0201, 0x80, 0xA0, 0},
         {JIS_X0201, 0xE0, 0xFF, 0},
+        {TIS_620, 0x80, 0x9F, 0},
         {0, 0, 0, 0},
     };
     const struct correction *found = corrections;

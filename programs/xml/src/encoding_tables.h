@@ -6,7 +6,7 @@
 #include <stddef.h>
 
 /* Numbers of tables that are not of IBM or Microsoft, which have less digits. */
-enum { BIG5 = 1000000, EUC_JP, EUC_KR, GB18030, GBK, ISO_2022_CN, ISO_2022_JP, ISO_2022_KR, JIS_X0201, SHIFT_JIS, SHIFT_JISX0213 };
+enum { BIG5 = 1000000, EUC_JP, EUC_KR, GB18030, GBK, ISO_2022_CN, ISO_2022_JP, ISO_2022_KR, JIS_X0201, SHIFT_JIS, SHIFT_JISX0213, TIS_620 };
 
 /* Codes of a table whose characters are not those of iconv. A code is a number that has the bytes of a character as its digits. The codes are those from the
  * first to the last one whose last byte is from that of the first to that of the last one, and is not 0x7F. */
@@ -51,7 +51,7 @@ const struct correction *encoding_correction(const struct correction *correction
 /* The character of a code of the correction; 0: it is none. */
 unsigned encoding_corrected(const struct correction *correction, unsigned code);
 
-/* Whether other programs read the codes of the correction as other characters than Java, or not at all. */
+/* Whether programs read the codes of the correction as different characters, or not at all. They have those of Java, or else of browsers. */
 bool encoding_is_doubtful(const struct correction *correction);
 
 #endif

@@ -1153,7 +1153,7 @@ static void read_by_libxml2(struct reader *reader) {
     parser_memory_end(&reader->memory);
 }
 
-/* Notes that a code of the encoding is read as Java reads it. */
+/* Notes that a code of the encoding is read as only some programs read it. */
 static void take_doubt(void *context, struct place place) {
     const struct reader *reader = context;
     parser_memory_pause(true);

@@ -163,7 +163,7 @@ class Encodings(Converted):
 
     def test_what_is_not_of_the_encoding(self):
         for encoding, text in (("EUC-JP", b"\xa4"), ("EUC-JP", b"\xff"), ("EUC-JP", b"\x81"), ("EUC-KR", b"\x85"), ("Shift_JIS", b"\x82"),
-                               ("GB18030", b"\x81\x20"), ("windows-1252", b"\x81")):
+                               ("GB18030", b"\x81\x20"), ("windows-1252", b"\x81"), ("Big5", b"\x80"), ("TIS-620", b"\x80"), ("TIS-620", b"\x9f")):
             data = b'<?xml version="1.0" encoding="' + encoding.encode() + b'"?>\n<a>ab' + text + b"</a>"
             with self.subTest(encoding=encoding, text=text):
                 row, column, what = self.fault(data)
@@ -197,14 +197,16 @@ class Encodings(Converted):
 class Doubts(Converted):
     """Codes that are read as Java reads them, and that other programs read otherwise: a note, once for a document, at the first one."""
 
-    WORDS = "note: a code of this encoding is read as Java reads it; other programs read another character, or none"
+    WORDS = "note: a code of this encoding is read as Java or browsers read it; other programs read another character, or none"
     # of each kind: the encoding, a code, its character, and codes beside it that have no note
     CODES = (("GBK", b"\xfe\x50", "\ue815", b"\xb0\xfe\x50\xaa\xa1"), ("GBK", b"\xa2\xab", "\ue766", b"\xa2\xaa\xa2\xb1"),
              ("GB18030", b"\xfe\x51", "\ue816", b"\xb0\xfe\x51\xfe\x50"), ("GB18030", b"\x82\x35\x90\x37", "\ue81e", b"\x82\x35\x90\x36"),
              ("GB18030", b"\x84\x31\x82\x36", "\ue78d", b"\x84\x31\x82\x35"), ("X0201", b"\\", "\\", b"\xb1|"), ("X0201", b"~", "~", b"}\xdf"),
              ("SHIFT_JISX0213", b"\\", "\\", b"\x83\x5c"), ("ShiftJISX0213", b"~", "~", b"\xb1"), ("JOHAB", b"\\", "\\", b"\x88\x61"),
              ("ISO-2022-JP", b"\x1b(I\n\x1b(B", "\uff4a", b"\x1b(I1\x1b(B\x1b(J\\\x1b(B"), ("ISO-2022-CN", b"\xe9", "\u00e9", b"\x1b$)G\x0eD!\x0f"),
-             ("ISO-2022-KR", b"\xe9", "\u00e9", b"\x1b$)C\x0e0!\x0f"),
+             ("ISO-2022-KR", b"\xe9", "\u00e9", b"\x1b$)C\x0e0!\x0f"), ("GBK", b"\x80", "\u20ac", b"\xa2\xe3"), ("Big5", b"\xa3\xe1", "\u20ac", b"\xa4\x40"),
+             ("Big5", b"\xa1\xc3", "\uffe3", b"\xa1\xc2"), ("Big5", b"\xa1\xc5", "\u02cd", b"\xa1\xc6"), ("Big5", b"\xf9\xd6", "\u7881", b"\xf9\xd5"),
+             ("Big5", b"\xf9\xfe", "\uffed", b"\xa1\x45"),
              ("ISO-2022-CN", b"\x1b$)G\x1b$*H\x0eD!\x0f", "\u6479", b"\x1b$)A\x0e0!\x1bN!!\x0f"))
 
     @staticmethod

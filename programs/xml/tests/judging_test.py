@@ -376,7 +376,7 @@ class Lines(InFolder):
         self.write("t.rnc", 'element a { string "\\x{E815}" }\n')
         self.write("d.xml", b'<?xml version="1.0" encoding="GBK"?>\n<a>\xfe\x50</a>')
         self.write("e.xml", b'<?xml version="1.0" encoding="GBK"?>\n<a>\xfe\x51</a>')
-        words = "a code of this encoding is read as Java reads it; other programs read another character, or none"
+        words = "a code of this encoding is read as Java or browsers read it; other programs read another character, or none"
         self.assertEqual(self.run_in(RNCV_XML, "--all", "t.rnc", "d.xml"), ("d.xml: valid\n", f"d.xml:2:4: note: {words}\n", 0))
         self.assertEqual(self.judge("-q", "t.rnc", "e.xml"), ("", 1))
         self.assertEqual(self.judge("--all", "--strict", "t.rnc", "d.xml", "e.xml"), (f"d.xml:2:4: {words}\ne.xml:2:4: {words}\n", 2))
