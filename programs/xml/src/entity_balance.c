@@ -1,6 +1,7 @@
 #include "entity_balance.h"
 
 #include "entity_text.h"
+#include "events.h"
 #include "parser_words.h"
 
 #include <libxml/parser.h>
@@ -28,6 +29,19 @@ static void take_error(void *context, parser_error *error) {
     stop_in_comment(error);
 }
 
+#if LIBXML_VERSION < 20911
+/* Stops where these versions would call themselves for too many elements in one another. Such a text counts as unbalanced, and libxml2 then reads it. */
+static void take_start(void *context, const xmlChar *local, const xmlChar *prefix, const xmlChar *uri, int namespace_count, const xmlChar **namespaces,
+                       int attribute_count, int default_count, const xmlChar **attributes) {
+    xmlParserCtxtPtr parser = context;
+    (void)local, (void)prefix, (void)uri, (void)namespace_count, (void)namespaces, (void)attribute_count, (void)default_count, (void)attributes;
+    if (parser->nameNr > USUAL_DEPTH) {
+        parser->wellFormed = 0;
+        parser->instate = XML_PARSER_EOF;
+    }
+}
+#endif
+
 /* Whether it is a well-formed document. */
 static bool is_document(const char *text, size_t length) {
     xmlParserCtxtPtr parser = length > INT_MAX ? NULL : xmlCreateMemoryParserCtxt(text, (int)length);
@@ -37,6 +51,9 @@ static bool is_document(const char *text, size_t length) {
     memset(parser->sax, 0, sizeof *parser->sax);
     parser->sax->initialized = XML_SAX2_MAGIC;
     parser->sax->serror = take_error;
+#if LIBXML_VERSION < 20911
+    parser->sax->startElementNs = take_start;
+#endif
     xmlCtxtUseOptions(parser, XML_PARSE_HUGE | XML_PARSE_NONET | XML_PARSE_IGNORE_ENC);
     xmlParseDocument(parser);
     bool is_well_formed = parser->wellFormed;
