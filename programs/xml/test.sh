@@ -1,5 +1,5 @@
 #!/bin/sh
-# Tests of rncv-xml and xml2pyx, in less than a minute:   programs/xml/test.sh [PROGRAM]     (PROGRAM: the built rncv, else crates/rncv/out/rncv)
+# Tests of rncv-xml and xml2pyx, in some minutes:   programs/xml/test.sh [PROGRAM]     (PROGRAM: the built rncv, else crates/rncv/out/rncv)
 #
 # It builds the programs into a temporary folder, unless RNCV_XML_PROGRAMS names one where they are. They need a C compiler, the headers of libxml2, and
 # librncv (RNCV_LIBRARY, by default build/library). What is missing is reported and skipped. With the variable RNCV_REQUIRED set that is a failure.
