@@ -389,42 +389,57 @@ static void refuse_external(struct declarations *declarations, const xmlChar *sy
     bytes_free(&what);
 }
 
+/* Notes a code of an external entity that programs read differently, once a document. */
+static void note_doubt(struct declarations *declarations, bool has_doubt) {
+    if (has_doubt && !declarations->feed->has_told_doubt) {
+        declarations->feed->has_told_doubt = true;
+        note_of(declarations, declarations_place(declarations), "%s", BAD_CAST read_as_java);
+    }
+}
+
+/* Counts and checks the text of an external entity. */
+static void take_loaded(struct declarations *declarations, const struct bytes *text, bool is_parameter) {
+    declarations->loaded += text->length;
+    mark(declarations, text->data, text->length, is_parameter);
+    check_text(declarations, (struct span){text->data, text->length}, is_parameter);
+    if (declarations->loaded > part_of_memory(declarations)) {
+        refuse_part(declarations, "external entities have more than %s bytes");
+    }
+}
+
+/* Makes an internal entity of an external one, with the text and the path of its file. False: out of memory. */
+static bool make_internal(xmlEntity *internal, const xmlEntity *external, struct bytes *text, struct bytes *path) {
+    *internal = *external;
+    internal->orig = NULL;
+    internal->checked = 0;
+    internal->length = (int)text->length;
+    internal->content = (xmlChar *)strdup(bytes_text(text));
+    xmlChar *uri = xmlPathToURI((const xmlChar *)bytes_text(path)); /* what it names is beside it */
+    internal->URI = uri == NULL ? NULL : (xmlChar *)strdup((const char *)uri);
+    xmlFree(uri);
+    return internal->content != NULL && internal->URI != NULL && !text->failed;
+}
+
 /* Reads an external entity, as an internal one of this type. NULL: it was not read, and there is a fault. */
 static struct twin *load(struct declarations *declarations, const xmlEntity *entity, xmlEntityType type) {
     struct bytes text = NO_BYTES;
     struct bytes path = NO_BYTES;
     struct fault why = NO_FAULT;
+    bool has_doubt = false;
     struct twin *twin = new_twin(declarations);
     if (entity->name == NULL) {
         bytes_add_byte(&text, '\n'); /* of the external DTD libxml2 would read a second mark or declaration at the start */
     }
     const struct external external = {entity->ExternalID, entity->URI, declarations->feed->decoding.is_1_1};
-    bool has_doubt = false;
     bool is_read = twin != NULL && external_read(&external, &text, &path, &has_doubt, &why);
     if (twin != NULL && !is_read) {
         refuse_external(declarations, entity->SystemID, &why);
     }
-    if (has_doubt && !declarations->feed->has_told_doubt) {
-        declarations->feed->has_told_doubt = true;
-        note_of(declarations, declarations_place(declarations), "%s", BAD_CAST read_as_java);
-    }
+    note_doubt(declarations, has_doubt);
     if (is_read) {
-        declarations->loaded += text.length;
-        mark(declarations, text.data, text.length, type == XML_INTERNAL_PARAMETER_ENTITY);
-        check_text(declarations, (struct span){text.data, text.length}, type == XML_INTERNAL_PARAMETER_ENTITY);
-        if (declarations->loaded > part_of_memory(declarations)) {
-            refuse_part(declarations, "external entities have more than %s bytes");
-        }
-        twin->entity = *entity;
+        take_loaded(declarations, &text, type == XML_INTERNAL_PARAMETER_ENTITY);
+        is_read = make_internal(&twin->entity, entity, &text, &path);
         twin->entity.etype = type;
-        twin->entity.orig = NULL;
-        twin->entity.checked = 0;
-        twin->entity.length = (int)text.length;
-        twin->entity.content = (xmlChar *)strdup(bytes_text(&text));
-        xmlChar *uri = xmlPathToURI((const xmlChar *)bytes_text(&path)); /* what it names is beside it */
-        twin->entity.URI = uri == NULL ? NULL : (xmlChar *)strdup((const char *)uri);
-        xmlFree(uri);
-        is_read = twin->entity.content != NULL && twin->entity.URI != NULL && !text.failed;
         if (!is_read) {
             declarations_out_of_memory(declarations);
         }
