@@ -158,7 +158,8 @@ static bool keep_attributes(struct finding *found, const struct event_attribute 
     if (!bytes_reserve(&found->texts, length)) {
         return false;
     }
-    for (struct event_attribute *here = found->attributes; here < found->attributes + count; here++) {
+    for (size_t at = 0; at < count; at++) {
+        struct event_attribute *here = &found->attributes[at];
         here->name.prefix = kept(&found->texts, here->name.prefix);
         here->name.local = kept(&found->texts, here->name.local);
         here->name.uri = kept(&found->texts, here->name.uri);
