@@ -181,7 +181,7 @@ static void take_corrected(struct transcoder *transcoder, char **from, size_t *l
     }
 }
 
-/* Adds the character of a code that stands between escapes. */
+/* Adds the character of a code that is between escapes. */
 static void add_code(const struct transcoder *transcoder, const struct iso_2022_step *step, struct bytes *text) {
     bool is_other = step->set == SET_CNS || step->set == SET_CNS_2 || step->set == SET_CNS_3;
     char code[sizeof step->code];

@@ -1,4 +1,4 @@
-/* The lists of a schema that may stand at a place of a document, and a schema that takes their tokens one by one. */
+/* The lists of a schema that may be at a place of a document, and a schema that takes their tokens one by one. */
 #ifndef LISTS_H
 #define LISTS_H
 

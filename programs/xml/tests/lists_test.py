@@ -191,7 +191,7 @@ class RandomLists(InFolder):
 
 
 class Lists(InFolder):
-    """Where lists stand, and what is said if no token is found."""
+    """Where lists are, and what is said if no token is found."""
 
     def message(self, schema, xml, *words):
         """What is said behind the text that is at fault, or behind `invalid: ` if no list is."""
@@ -244,7 +244,7 @@ class Lists(InFolder):
         self.assertEqual(self.message(spaces, '<a><b>1</b><b xmlns="urn:u">x</b></a>'), ': "x" is not allowed here; expected xsd:date)')
 
     def test_other_texts_beside_lists(self):
-        """Nothing is said of tokens where another text may stand."""
+        """Nothing is said of tokens where another text may be."""
         wrong = ': "x" is not allowed here; expected xsd:integer)'
         self.assertEqual(self.message('element a { list { xsd:integer+ } | "auto" }', "<a>1 x</a>"), 'the text of <a> is wrong ("1 x"); expected "auto"')
         self.assertEqual(self.message("element a { list { xsd:integer+ } | (xsd:date - xsd:date '2002-11-21') }", "<a>1 x</a>"),
