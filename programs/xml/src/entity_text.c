@@ -207,14 +207,14 @@ static void leave(struct rewriting *rewriting) {
     rewriting->source->close(rewriting->source->context);
 }
 
-/* Writes a reference. In a value what is none is no reference in the text around it either. */
+/* Writes a reference. What is none is no reference with the text behind it either. */
 static void rewrite_reference(struct rewriting *rewriting) {
     struct span rest = rewriting->now.rest;
     struct reference reference = reference_at(rest);
     bool is_in_value = rewriting->now.where != IN_CONTENT;
     struct span text;
     if (reference.length == 0) {
-        replace(rewriting, is_in_value ? "&;" : "&");
+        replace(rewriting, "&;");
     } else if (reference.is_code ||
                !rewriting->source->open(rewriting->source->context, (struct span){rest.data + 1, reference.length - 2}, is_in_value, &text)) {
         copy(rewriting, reference.length);

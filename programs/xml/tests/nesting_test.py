@@ -78,6 +78,13 @@ class Nested(InFolder):
                     deep = document.replace("f ']>'", f"f '{f}'").format(chain("e", MANY, text), "", "e")
                     self.assertEqual(self.converted(deep), self.converted(plain))
 
+    def test_no_reference_is_made_of_two_texts(self):
+        for text, inner in (("&#38;&f;", "lt;"), ("&#38;a&f;", "mp;"), ("&#38;#&f;", "65;"), ("&#38;#x&f;", "41;"), ("&#38;&f;", "f;")):
+            document = f'<!DOCTYPE a [<!ENTITY f "{inner}">{{}}<!ENTITY g "{text}&e;">]><a>&g;</a>'
+            with self.subTest(text=text):
+                self.assertEqual(self.converted(document.format('<!ENTITY e "v">')), ("", 2))
+                self.assertEqual(self.converted(document.format(chain("e", MANY, "v"))), ("", 2))
+
     def test_each_text_in_a_value(self):
         for text in (*TEXTS, *FAULTS, "&f;", "&#38;quot;&#39;", "&f;&#38;f;&#38;#10;"):
             document = "<!DOCTYPE a [<!ENTITY f 'v'><!ENTITY e0 ''>{}]><a q='1 &e;'/>"
