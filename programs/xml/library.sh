@@ -19,7 +19,7 @@ rng="rng_tree rng_namespaces rng_grammar rng_uri rng_prefixes rng_words rng_patt
 hints="schema_asked schema_types schema_tree schema_grammars schema_words schema_restrictions schema_hints schema_datatypes"
 telling="finding expected scope declared near lists list_fault telling alone_schema contexts alone second_reading"
 merging="schema_walk schema_merging schema_merged_text"
-schemas="schema_tokens annotation_names schema_annotations xml_names origins $rng catalogs $hints schema_files schema_xml $merging"
+schemas="schema_tokens annotation_names schema_annotations origins $rng catalogs $hints schema_files schema_xml $merging"
 ids="text_table id_form id_types id_check schema_ids named_sets stand_ins schema_controls"
 parts="$parser_parts program paths $schemas $ids event_log library_calls judging $telling library"
 

@@ -21,6 +21,17 @@ struct span {
 
 #define NO_BYTES {NULL, 0, 0, false}
 
+/* Whether the text begins with this one. */
+static inline bool span_begins(struct span text, const char *with) {
+    size_t length = strlen(with);
+    return text.length >= length && memcmp(text.data, with, length) == 0;
+}
+
+/* The text from this byte on; an empty one if it ends before. */
+static inline struct span span_from(struct span text, size_t at) {
+    return at < text.length ? (struct span){text.data + at, text.length - at} : (struct span){text.data, 0};
+}
+
 /* Begins a function that stays out of those that call it, since they seldom do. So they save no registers for it. */
 #define OUT_OF_LINE __attribute__((noinline))
 

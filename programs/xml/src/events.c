@@ -11,6 +11,7 @@
 #include <libxml/SAX2.h>
 #include <libxml/parserInternals.h>
 #include <libxml/uri.h>
+#include <limits.h>
 #include <stdlib.h>
 #include <string.h>
 
@@ -49,6 +50,8 @@ struct reader {
     struct known_names names; /* at the end, since most of it is not set at first */
 };
 
+static const char marked_value[] = "over a limit of this program: 256,000,000 bytes of markup that has `{left-out:` in a literal";
+static const char long_entity[] = "over a limit of this program: an entity has more than 2,147,483,647 bytes";
 static const char control_character[] = "a control character by a reference, which XML 1.1 has: outside the profile";
 
 /* The reader of this thread's document. libxml2 reports some errors without it. */
@@ -138,7 +141,7 @@ static inline bool is_raw(const struct reader *reader, const xmlChar *text) {
 
 /* Finds the position of such a piece, and moves on behind it. */
 static inline struct position raw_position(struct reader *reader, const xmlChar *text, size_t length) {
-    uint64_t begin = feed_offset_in(reader->feed.parser->input, text);
+    uint64_t begin = feed_offset_in(&reader->feed, reader->feed.parser->input, text);
     feed_move_on(&reader->feed, begin + length);
     return (struct position){begin, length};
 }
@@ -237,22 +240,21 @@ static void take_text(void *context, const xmlChar *text, int size) {
 /* Takes a CDATA section, or a part of one that was cut. */
 static void take_section(void *context, const xmlChar *text, int size) {
     struct reader *reader = context;
-    xmlParserInput *input = reader->feed.parser->inputTab[0];
-    bool is_part = section_is_part(&reader->feed.section, input);
+    bool is_part = section_is_part(&reader->feed.section, feed_offset(&reader->feed), &reader->feed.skew);
     if (reader->feed.controls.has_marks) {
         take_marked_text(context, text, size);
     } else {
         take_text(context, text, size);
     }
     if (feed_is_read(&reader->feed)) {
-        section_begins_again(&reader->feed.section, input, is_part);
+        section_begins_again(&reader->feed.section, is_part, &reader->feed.skew);
     }
 }
 
 /* Sets the position of a start tag in the document, and moves on behind it. */
 static void set_tag(struct reader *reader) {
     const xmlParserInput *input = reader->feed.parser->input;
-    uint64_t end = feed_offset_in(input, input->cur);
+    uint64_t end = feed_offset_in(&reader->feed, input, input->cur);
     bool is_empty = *input->cur == '/';
     reader->start.position.at = end;
     reader->start.position.blanks = BEFORE_TAG;
@@ -378,10 +380,27 @@ static void add_defaults(struct reader *reader, struct start_event *start) {
     count_defaults(reader, (count * count + declarations->default_count) / COST_OF_DEFAULTS);
 }
 
+/* The whole name of one that libxml2 has. */
+static struct span whole_name(const struct reader *reader, struct span name) {
+    return long_names_whole(&reader->feed.shortening.names, name);
+}
+
+/* Refuses a long name that may be another one than it is taken for. */
+static void check_long_name(struct reader *reader, const xmlChar *name) {
+    const struct long_names *names = &reader->feed.shortening.names;
+    struct span span = span_of(name);
+    bool is_doubtful = names->is_doubtful || reader->declarations.loaded > LONGEST_NAME;
+    if (span.length > LONGEST_NAME && (is_doubtful || !long_names_have(names, span))) {
+        fault_set(reader->fault, FAULT_OUTSIDE, declarations_place(&reader->declarations),
+                  "over a limit of this program: a name has more than 9,000,000 bytes, and so may one in an entity");
+    }
+}
+
 static void add_declarations(struct reader *reader, struct start_event *start, int count, const xmlChar **namespaces) {
     start->declaration_count = 0;
     for (int at = 0; at < count && is_good(reader); at++) {
-        add_declaration(reader, start, span_of(namespaces[2 * at]), span_of(unmarked_uri(reader, namespaces[2 * at + 1])));
+        check_long_name(reader, namespaces[2 * at]);
+        add_declaration(reader, start, whole_name(reader, span_of(namespaces[2 * at])), span_of(unmarked_uri(reader, namespaces[2 * at + 1])));
     }
     if (reader->declarations.default_count > 0) {
         add_defaults(reader, start);
@@ -399,7 +418,10 @@ static const struct event_name *name_of(struct reader *reader, const xmlChar *lo
     if (reader->names.locals[place] != NULL) {
         keep(reader); /* another name vanishes from there */
     }
-    return known_name_new(&reader->names, reader->feed.parser->dict, local, prefix, uri, unmarked_uri(reader, uri));
+    const struct event_name *name = known_name_new(&reader->names, reader->feed.parser->dict, local, prefix, uri, unmarked_uri(reader, uri));
+    check_long_name(reader, local);
+    check_long_name(reader, prefix);
+    return name;
 }
 
 /* Whether values of attributes may have marks. */
@@ -433,6 +455,29 @@ static struct span unmarked(struct reader *reader, struct span value) {
     return found;
 }
 
+/* Writes the values of a tag whole of which libxml2 has got a part. */
+static void write_whole(struct reader *reader, struct start_event *start) {
+    struct shortening *shortening = &reader->feed.shortening;
+    struct bytes *whole = &shortening->whole;
+    size_t length = 0;
+    for (size_t at = 0; at < start->attribute_count; at++) {
+        length += shortening_count(shortening, start->attributes[at].value);
+    }
+    if (!shortening_is_clear(shortening)) {
+        fault_set(reader->fault, FAULT_OUTSIDE, place_of(start->position), "%s", marked_value);
+    } else if (!bytes_reserve(whole, length)) {
+        out_of_memory(reader);
+    }
+    for (size_t at = 0; at < start->attribute_count && is_good(reader); at++) {
+        struct span *value = &reader->attributes[at].value;
+        size_t begin = whole->length;
+        shortening_add_whole(shortening, *value, whole);
+        *value = (struct span){whole->data + begin, whole->length - begin};
+    }
+    feed_check_memory(&reader->feed, place_of(start->position));
+    shortening_forget(shortening);
+}
+
 static void add_attributes(struct reader *reader, struct start_event *start, int count, const xmlChar **attributes) {
     start->attribute_count = 0;
     if (may_have_marks(reader)) {
@@ -450,6 +495,9 @@ static void add_attributes(struct reader *reader, struct start_event *start, int
         }
     }
     start->attributes = reader->attributes;
+    if (reader->feed.shortening.part_count > 0 && is_good(reader)) {
+        write_whole(reader, start);
+    }
 }
 
 /* Whether the tag has the declaration by default, as far as the DTD says. */
@@ -643,6 +691,7 @@ static OUT_OF_LINE void take_any_start(void *context, const xmlChar *local, cons
         hand_start(reader, start);
     }
     keep_name(reader, start->name);
+    bytes_free(&reader->feed.shortening.whole);
     start->has_fleeting_name = false;
     reader->has_double = false;
     reader->has_undeclared = false;
@@ -717,7 +766,7 @@ static void take_start(void *context, const xmlChar *local, const xmlChar *prefi
 /* Finds the position of an end tag in the document, and moves on behind it. Of an empty element it is behind its tag. */
 static inline struct position end_position(struct reader *reader) {
     const xmlParserInput *input = reader->feed.parser->input;
-    struct position position = {feed_offset_in(input, input->cur), reader->is_empty ? 0 : BEFORE_END_TAG};
+    struct position position = {feed_offset_in(&reader->feed, input, input->cur), reader->is_empty ? 0 : BEFORE_END_TAG};
     reader->is_empty = false;
     feed_move_on(&reader->feed, position.at);
     return position;
@@ -801,13 +850,12 @@ static void take_instruction(void *context, const xmlChar *target, const xmlChar
         hand_good_instruction(reader, span_of(target), span);
         return;
     }
-    xmlParserInput *input = reader->feed.parser->inputTab[0];
-    bool is_part = section_is_part(&reader->feed.section, input);
+    bool is_part = section_is_part(&reader->feed.section, feed_offset(&reader->feed), &reader->feed.skew);
     if (!reader->feed.section.is_continued) {
-        hand_good_instruction(reader, span_of(target), span); /* of a long one this is the beginning */
+        hand_good_instruction(reader, whole_name(reader, span_of(target)), span); /* of a long one this is the beginning */
     }
     feed_move(&reader->feed, feed_offset(&reader->feed));
-    section_begins_again(&reader->feed.section, input, is_part);
+    section_begins_again(&reader->feed.section, is_part, &reader->feed.skew);
 }
 
 /* A comment vanishes. */
@@ -815,10 +863,9 @@ static void take_comment(void *context, const xmlChar *text) {
     struct reader *reader = context;
     (void)text;
     if (feed_is_read(&reader->feed)) {
-        xmlParserInput *input = reader->feed.parser->inputTab[0];
-        bool is_part = section_is_part(&reader->feed.section, input);
+        bool is_part = section_is_part(&reader->feed.section, feed_offset(&reader->feed), &reader->feed.skew);
         feed_move(&reader->feed, feed_offset(&reader->feed));
-        section_begins_again(&reader->feed.section, input, is_part);
+        section_begins_again(&reader->feed.section, is_part, &reader->feed.skew);
     }
 }
 
@@ -867,14 +914,38 @@ static xmlChar *kept_text(struct reader *reader, int type, xmlChar *text, struct
     return (xmlChar *)kept;
 }
 
+/* The whole text of an entity of which libxml2 has got a part. Free the bytes. */
+static xmlChar *whole_text(struct reader *reader, xmlChar *text, struct bytes *whole) {
+    struct shortening *shortening = &reader->feed.shortening;
+    struct span span = span_of(text);
+    if (text == NULL || shortening->part_count == 0 || !feed_is_read(&reader->feed)) {
+        return text;
+    }
+    size_t length = shortening_count(shortening, span);
+    if (!shortening_is_clear(shortening) || length > INT_MAX) {
+        fault_set(reader->fault, FAULT_OUTSIDE, declarations_place(&reader->declarations), "%s", length > INT_MAX ? long_entity : marked_value);
+    } else if (!bytes_reserve(whole, length + 1)) {
+        out_of_memory(reader);
+    } else {
+        shortening_add_whole(shortening, span, whole);
+    }
+    shortening_forget(shortening);
+    return (xmlChar *)bytes_text(whole);
+}
+
 static void take_entity(void *context, const xmlChar *name, int type, const xmlChar *public, const xmlChar *system, xmlChar *text) {
     struct reader *reader = context;
+    struct bytes whole = NO_BYTES;
     struct bytes written = NO_BYTES;
     bool is_parameter = type == XML_INTERNAL_PARAMETER_ENTITY || type == XML_EXTERNAL_PARAMETER_ENTITY;
-    declarations_entity(&reader->declarations, is_parameter, text);
+    xmlChar *value = whole_text(reader, text, &whole);
+    check_long_name(reader, name);
+    long_names_beside(&reader->feed.shortening.names, span_of(value));
+    declarations_entity(&reader->declarations, is_parameter, value);
     bool is_first = is_parameter || xmlGetDocEntity(reader->feed.parser->myDoc, name) == NULL;
-    xmlSAX2EntityDecl(reader->feed.parser, name, type, public, system, kept_text(reader, type, text, &written));
+    xmlSAX2EntityDecl(reader->feed.parser, name, type, public, system, kept_text(reader, type, value, &written));
     bytes_free(&written);
+    bytes_free(&whole);
     if (!is_parameter && is_first) {
         declarations_declared(&reader->declarations, name);
     }
@@ -891,6 +962,13 @@ static void take_unparsed(void *context, const xmlChar *name, const xmlChar *pub
     move_on(reader);
 }
 
+static void take_notation(void *context, const xmlChar *name, const xmlChar *public, const xmlChar *system) {
+    (void)name;
+    (void)public;
+    (void)system;
+    move_on(context);
+}
+
 /* Refuses a declaration with too many choices that came at once. */
 static void check_choices(struct reader *reader, const xmlEnumeration *choices) {
     size_t count = 0;
@@ -902,11 +980,36 @@ static void check_choices(struct reader *reader, const xmlEnumeration *choices) 
     }
 }
 
+/* The name of a declaration, with whole names in the place of long ones. */
+static const xmlChar *whole_written(struct reader *reader, const xmlChar *written) {
+    size_t colon = strcspn((const char *)written, ":");
+    struct span prefix = {(const char *)written, colon};
+    struct span local = span_of(written + colon);
+    struct bytes whole = NO_BYTES;
+    if (prefix.length <= LONGEST_NAME && local.length <= LONGEST_NAME) {
+        return written;
+    }
+    prefix = whole_name(reader, prefix);
+    bytes_add(&whole, prefix.data, prefix.length);
+    if (local.length > 0) {
+        local = whole_name(reader, span_from(local, 1));
+        bytes_add_byte(&whole, ':');
+        bytes_add(&whole, local.data, local.length);
+    }
+    const char *text = bytes_text(&whole);
+    const xmlChar *found = whole.failed ? NULL : xmlDictLookup(reader->feed.parser->dict, (const xmlChar *)text, -1);
+    bytes_free(&whole);
+    if (found == NULL) {
+        out_of_memory(reader);
+    }
+    return found == NULL ? written : found;
+}
+
 static void take_attribute(void *context, const xmlChar *element, const xmlChar *name, int type, int kind, const xmlChar *value, xmlEnumerationPtr choices) {
     struct reader *reader = context;
-    (void)type;
     (void)kind;
-    declarations_attribute(&reader->declarations, element, name, value);
+    reader->feed.shortening.scan.has_types |= type != XML_ATTRIBUTE_CDATA;
+    declarations_attribute(&reader->declarations, whole_written(reader, element), whole_written(reader, name), value);
     check_choices(reader, choices);
     reader->is_unusual = true;
     xmlFreeEnumeration(choices);
@@ -922,6 +1025,7 @@ static void take_element(void *context, const xmlChar *name, int type, xmlElemen
 
 static xmlEntityPtr give_general(void *context, const xmlChar *name) {
     struct reader *reader = context;
+    check_long_name(reader, name);
     xmlEntityPtr entity = declarations_general(&reader->declarations, name);
     reader->is_unusual |= reader->declarations.has_marks;
     return entity;
@@ -929,6 +1033,7 @@ static xmlEntityPtr give_general(void *context, const xmlChar *name) {
 
 static xmlEntityPtr give_parameter(void *context, const xmlChar *name) {
     struct reader *reader = context;
+    check_long_name(reader, name);
     return declarations_parameter(&reader->declarations, name);
 }
 
@@ -1074,6 +1179,7 @@ static void set_handlers(xmlSAXHandler *handlers) {
     handlers->externalSubset = take_subset_end;
     handlers->entityDecl = take_entity;
     handlers->unparsedEntityDecl = take_unparsed;
+    handlers->notationDecl = take_notation;
     handlers->attributeDecl = take_attribute;
     handlers->elementDecl = take_element;
     handlers->resolveEntity = give_input;
@@ -1161,6 +1267,12 @@ static void take_doubt(void *context, struct place place) {
     parser_memory_pause(false);
 }
 
+/* The tag that libxml2 reads, or that comes next, has to be looked at. */
+static void take_shortened(void *context) {
+    struct reader *reader = context;
+    reader->is_unusual = true;
+}
+
 /* From now on texts and values may have marks for control characters. */
 static void use_marks(void *context) {
     struct reader *reader = context;
@@ -1179,6 +1291,8 @@ static void open_reader(struct reader *reader, const struct byte_source *source,
     reader->feed.keep = keep;
     reader->feed.before_read = before_read;
     reader->feed.marked = use_marks;
+    reader->feed.shortened = take_shortened;
+    reader->names.long_names = &reader->feed.shortening.names;
     reader->feed.most_depth = sink->depth == 0 ? USUAL_DEPTH : sink->depth;
 #if LIBXML_VERSION < 20911
     if (reader->feed.most_depth > USUAL_DEPTH) {

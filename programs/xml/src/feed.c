@@ -6,10 +6,13 @@
 
 enum {
     PIECE_BYTES = 65536,    /* of the document, read at once */
-    TOKEN_BYTES = 1000000000, /* the longest tag or declaration: libxml2 takes no more */
+    HELD_BYTES = 1000000000,  /* of a tag or a declaration that libxml2 may hold: it takes no more */
     LONG_BYTES = 1048576,     /* the beginning of longer markup is not kept */
+    MOST_CONSUMED = 1 << 30, /* the greatest offset that libxml2 has */
+    SHORT_BYTES = 256,      /* of a reference that is passed over */
     COUNTED_BYTES = 128,    /* whose line feeds are counted together: fewer than 256 */
-    FORGOTTEN_BYTES = 65536 /* the text that was read is forgotten in pieces of this length */
+    FORGOTTEN_BYTES = 65536, /* the text that was read is forgotten in pieces of this length */
+    AHEAD_BYTES = 2         /* that are known behind what libxml2 gets */
 };
 
 static const char of_element[] = "<!ELEMENT";
@@ -32,6 +35,7 @@ void feed_open(struct feed *feed, const struct byte_source *source, struct fault
 void feed_close(struct feed *feed) {
     decoding_free(&feed->decoding);
     bytes_free(&feed->models.separators);
+    shortening_free(&feed->shortening);
     bytes_free(&feed->text);
     bytes_free(&feed->room);
 }
@@ -229,7 +233,8 @@ static void forget(struct feed *feed) {
 }
 
 bool feed_is_over(const struct feed *feed) {
-    return parser_memory_held() + feed->text.capacity + feed->room.capacity + feed->models.separators.capacity + feed->kept > feed->most;
+    size_t own = feed->text.capacity + feed->room.capacity + feed->models.separators.capacity + shortening_held(&feed->shortening);
+    return parser_memory_held() + own + feed->kept > feed->most;
 }
 
 const char *feed_raising(const struct feed *feed) {
@@ -353,11 +358,31 @@ bool has_too_many_attributes(struct span text, size_t most) {
     return false;
 }
 
-uint64_t feed_markup(struct feed *feed) {
-    feed->markup = feed->markup > feed->next ? feed->markup : feed->next;
-    while (is_blank(feed_byte(feed, feed->markup))) {
-        feed->markup++;
+/* Whether libxml2 reads the document type. */
+static bool is_in_subset(const struct feed *feed) {
+    return feed->parser != NULL && feed->parser->inSubset != 0;
+}
+
+/* The offset behind the reference to a parameter entity at the offset; the offset itself if there is none, or its name is long. */
+static uint64_t behind_reference(const struct feed *feed, uint64_t offset) {
+    uint64_t at = offset;
+    while (at < offset + SHORT_BYTES && feed_byte(feed, offset) == '%' && feed_byte(feed, at) != ';') {
+        at++;
     }
+    return feed_byte(feed, at) == ';' ? at + 1 : offset;
+}
+
+uint64_t feed_markup(struct feed *feed) {
+    bool is_declared = is_in_subset(feed);
+    uint64_t from = feed->markup > feed->next ? feed->markup : feed->next;
+    feed->markup = from;
+    do {
+        from = feed->markup;
+        while (is_blank(feed_byte(feed, feed->markup)) || (is_declared && feed_byte(feed, feed->markup) == '>')) {
+            feed->markup++; /* the end of a declaration comes after its event */
+        }
+        feed->markup = is_declared ? behind_reference(feed, feed->markup) : feed->markup;
+    } while (feed->markup > from);
     return feed->markup;
 }
 
@@ -398,12 +423,38 @@ static void check_choices(struct feed *feed, uint64_t markup) {
     }
 }
 
+/* How many bytes libxml2 holds of the document's text. */
+static size_t held_by_parser(const struct feed *feed) {
+    const xmlParserInput *input = feed->parser == NULL ? NULL : feed->parser->inputTab[0];
+    return input == NULL ? 0 : (size_t)(input->end - input->base);
+}
+
 /* Refuses markup that is too long, and a document of which too much is held. */
 static void check_length(struct feed *feed, uint64_t markup) {
-    if (feed->begin + feed->given > markup + TOKEN_BYTES) {
+    if (held_by_parser(feed) > HELD_BYTES) {
         fault_set(feed->fault, FAULT_OUTSIDE, feed_place(feed, markup), "over a limit of this program: markup of more than 1,000,000,000 bytes");
     }
+    if (feed->shortening.failed || feed->shortening.text.failed) {
+        fault_set(feed->fault, FAULT_MEMORY, (struct place){0, 0}, "out of memory");
+    }
     feed_check_memory(feed, feed->place);
+}
+
+/* So many bytes of the text at most, and the rest of the character that the last one is in. */
+static struct span whole_characters(struct span text, size_t most) {
+    size_t length = text.length < most ? text.length : most;
+    while (length < text.length && ((unsigned char)text.data[length] & 0xC0) == 0x80) {
+        length++;
+    }
+    return (struct span){text.data, length};
+}
+
+/* Looks for long runs in the markup. A percent sign begins a reference in a document type alone. */
+static void look_for_runs(struct feed *feed, uint64_t markup) {
+    if (feed_byte(feed, markup) != '%' || is_in_subset(feed)) {
+        struct span text = {feed->text.data, feed->text.length};
+        shortening_look(&feed->shortening, markup, whole_characters(text, feed->given), feed->begin);
+    }
 }
 
 /* Looks at the markup that libxml2 reads. */
@@ -413,6 +464,7 @@ static void check(struct feed *feed) {
     if (!feed->section.is_continued) {
         check_tag(feed, markup);
         check_choices(feed, markup);
+        look_for_runs(feed, markup);
     }
     check_length(feed, markup);
 }
@@ -428,7 +480,7 @@ static void stop_asking(struct feed *feed) {
 
 /* Whether there is enough of the text for libxml2, which wants so many bytes. */
 static bool has_enough(const struct feed *feed, size_t wanted) {
-    return feed->text.length - feed->given >= wanted + (feed->decoding.is_1_1 ? LONGEST_CONTROL : 0);
+    return feed->text.length - feed->given >= wanted + (feed->decoding.is_1_1 ? LONGEST_CONTROL : AHEAD_BYTES);
 }
 
 void feed_has_marks(struct feed *feed) {
@@ -461,25 +513,6 @@ static void write_bytes(struct feed *feed, char *bytes, size_t count) {
     }
 }
 
-/* Gives at most so many bytes to libxml2, and cuts a long section. Returns how many they are. */
-static size_t give(struct feed *feed, char *bytes, size_t most) {
-    const xmlParserInput *input = feed->parser == NULL ? NULL : feed->parser->inputTab[0];
-    struct span next = {feed->text.data + feed->given, feed->text.length - feed->given};
-    uint64_t offset = feed->begin + feed->given;
-    size_t cut = SIZE_MAX;
-    if (feed->given > 0 && input != NULL && input->consumed >= CUT_BYTES && next.length >= most && most >= 2 * CUT_BYTES) {
-        next.length = most - CUT_BYTES;
-        cut = section_cut_in(&feed->section, next.data[-1], offset, next);
-    }
-    if (cut == SIZE_MAX) {
-        size_t count = next.length < most ? next.length : most;
-        write_bytes(feed, bytes, count);
-        return count;
-    }
-    write_bytes(feed, bytes, next.length);
-    return next.length + section_cut(&feed->section, bytes, next.length, cut, offset);
-}
-
 /* Tells about the first code that other programs read otherwise, once libxml2 has it. */
 static void tell_doubt(struct feed *feed) {
     if (feed->doubt_at < feed->begin + feed->given && !feed->has_told_doubt) {
@@ -489,17 +522,134 @@ static void tell_doubt(struct feed *feed) {
     }
 }
 
+/* Reads until there are so many bytes that libxml2 has not got, or no more. False: there is a fault. */
+static bool read_for(struct feed *feed, size_t wanted) {
+    while (feed->fault->kind == FAULT_NONE && !has_enough(feed, wanted) && !feed->has_ended && feed->decoding.fault.kind == FAULT_NONE) {
+        forget(feed);
+        feed->before_read(feed->context);
+        if (feed->fault->kind != FAULT_NONE || !read_more(feed)) {
+            return false;
+        }
+    }
+    return true;
+}
+
+static struct span not_given(const struct feed *feed) {
+    return (struct span){feed->text.data + feed->given, feed->text.length - feed->given};
+}
+
+/* Leaves out the rest of the run at which libxml2 is. What it has got was looked at. */
+static void leave_out(struct feed *feed) {
+    size_t length = 0;
+    struct span next;
+    do {
+        next = not_given(feed);
+        length = shortening_leave_out(&feed->shortening, next);
+        feed->given += length;
+        feed->scan.next = feed->begin + feed->given;
+        feed->choices_at = feed->scan.next;
+        section_pass(&feed->section, feed->scan.next);
+        tell_doubt(feed);
+    } while (length > 0 && length == next.length && read_for(feed, 1));
+}
+
+/* Gives the bytes before the cut to libxml2, and what it gets in the place of the rest of the run. Returns how many they are. */
+static size_t give_shortened(struct feed *feed, char *bytes, size_t cut) {
+    write_bytes(feed, bytes, cut);
+    check(feed);
+    uint64_t before = feed->begin + feed->given;
+    leave_out(feed);
+    size_t length = shortening_close(&feed->shortening, bytes + cut);
+    feed->skew += feed->begin + feed->given - before - length;
+    feed->shortened(feed->context);
+    return cut + length;
+}
+
+/* Whether libxml2 holds many blanks that mean nothing: those between what is outside the root. More of them may be left out. */
+static bool has_many_blanks(const struct feed *feed, uint64_t markup, struct span next) {
+    bool is_blank_so_far = markup >= feed->begin + feed->given && next.length > 0 && is_blank(next.data[0]);
+    return is_blank_so_far && feed->parser->nameNr == 0 && held_by_parser(feed) >= LONGEST_NAME;
+}
+
+/* Where a run is cut in the next bytes, of which libxml2 gets at most so many; SIZE_MAX: none is. */
+static size_t shortening_cut(struct feed *feed, size_t most) {
+    if (feed->parser == NULL || !feed_is_read(feed) || most < 2 * IN_PLACE_BYTES) {
+        return SIZE_MAX;
+    }
+    uint64_t markup = feed_markup(feed);
+    uint64_t offset = feed->begin + feed->given;
+    if (has_many_blanks(feed, markup, not_given(feed))) {
+        shortening_begin_blanks(&feed->shortening, offset);
+        return 0;
+    }
+    return shortening_cut_in(&feed->shortening, markup, offset, whole_characters(not_given(feed), most - IN_PLACE_BYTES), held_by_parser(feed));
+}
+
+/* The place of `]]>` if the place is inside of one, or the place itself. */
+static size_t before_end(struct span text, size_t at) {
+    static const char end[] = "]]>";
+    bool is_behind_two = at >= 2 && span_begins(span_from(text, at - 2), end);
+    bool is_behind_one = at >= 1 && span_begins(span_from(text, at - 1), end);
+    return is_behind_two ? at - 2 : is_behind_one ? at - 1 : at;
+}
+
+/* How many of the next bytes libxml2 gets, if it gets so many at most. Where it has read all that it has, it takes the first byte of a longer character for one
+ * by itself, which it may have in a name, and does not see `]]>` in content if that goes on behind. So the bytes end neither before such a character nor
+ * within `]]>`. */
+static size_t good_count(const struct feed *feed, struct span next, size_t most) {
+    size_t count = next.length < most ? next.length : most;
+    bool is_before_longer = count < next.length ? ((unsigned char)next.data[count] & 0xC0) == 0xC0 : !feed->has_ended;
+    size_t good = before_end(next, is_before_longer && count > 0 ? count - 1 : count);
+    return good > 0 ? good : count;
+}
+
+/* Gives at most so many bytes to libxml2, and cuts a long section. Returns how many they are. */
+static size_t give_section(struct feed *feed, char *bytes, size_t most) {
+    struct span next = not_given(feed);
+    uint64_t offset = feed->begin + feed->given;
+    size_t cut = SIZE_MAX;
+    if (feed->given > 0 && next.length >= most && most >= 2 * CUT_BYTES) {
+        next.length = good_count(feed, next, most - CUT_BYTES);
+        cut = section_cut_in(&feed->section, next.data[-1], offset, next);
+    }
+    if (cut == SIZE_MAX) {
+        size_t count = good_count(feed, not_given(feed), most);
+        write_bytes(feed, bytes, count);
+        return count;
+    }
+    write_bytes(feed, bytes, next.length);
+    return next.length + section_cut(&feed->section, bytes, next.length, cut, offset);
+}
+
+/* Gives at most so many bytes to libxml2, with less of long markup and more of long sections. Returns how many they are. */
+static size_t give(struct feed *feed, char *bytes, size_t most) {
+    size_t count = 0;
+    most = shortening_most(&feed->shortening, feed->begin + feed->given, most);
+    size_t cut = shortening_cut(feed, most);
+    while (cut != SIZE_MAX && feed->fault->kind == FAULT_NONE) {
+        count += give_shortened(feed, bytes + count, cut);
+        cut = read_for(feed, most - count) ? shortening_cut(feed, most - count) : SIZE_MAX;
+    }
+    return feed->fault->kind == FAULT_NONE ? count + give_section(feed, bytes + count, most - count) : count;
+}
+
+/* Keeps the offsets of libxml2 small, since it compares them as numbers of 32 bits, and would not see that it reads nothing more. */
+static void count_from_zero(struct feed *feed) {
+    xmlParserInput *input = feed->parser == NULL || feed->parser->inputNr < 1 || feed->is_away ? NULL : feed->parser->inputTab[0];
+    if (input != NULL && input->consumed > MOST_CONSUMED) {
+        feed->skew += input->consumed;
+        input->consumed = 0;
+    }
+}
+
 /* libxml2 looks ahead in what it gets at once, so it gets all that it asks for unless the document ends. */
 int feed_read(void *context, char *bytes, int length) {
     struct feed *feed = context;
     size_t wanted = length > 0 ? (size_t)length : 0;
     feed->keep(feed->context);
-    while (feed->fault->kind == FAULT_NONE && !has_enough(feed, wanted) && !feed->has_ended && feed->decoding.fault.kind == FAULT_NONE) {
-        forget(feed);
-        feed->before_read(feed->context);
-        if (feed->fault->kind != FAULT_NONE || !read_more(feed)) {
-            return -1;
-        }
+    count_from_zero(feed);
+    if (!read_for(feed, wanted)) {
+        return -1;
     }
     if (feed->given == feed->text.length && feed->decoding.fault.kind != FAULT_NONE) {
         struct fault *why = &feed->decoding.fault;

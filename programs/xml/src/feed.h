@@ -1,7 +1,8 @@
 /* Gives a document's text to libxml2 as it reads, and knows the place of each offset in the text.
  *
  * The text is what `decoding.h` makes of the document, so libxml2 sees UTF-8 with a line feed for each line end, whatever the document's encoding. In XML 1.1
- * it sees marks in the place of the references that `controls.h` finds. `models.h` says what it sees of content models. */
+ * it sees marks in the place of the references that `controls.h` finds. `models.h` says what it sees of content models, `sections.h` of long comments and the
+ * like, `shortening.h` of long names and values. */
 #ifndef FEED_H
 #define FEED_H
 
@@ -10,10 +11,11 @@
 #include "events.h"
 #include "models.h"
 #include "sections.h"
+#include "shortening.h"
 
 #include <libxml/parser.h>
 
-enum { MARK_BYTES = 9 /* the longest beginning that tells markup: `<![CDATA[` */ };
+enum { MARK_BYTES = 10 /* the longest beginning that tells markup: `<!DOCTYPE` and a blank */ };
 
 /* The start tag that is being read: how many attributes it has. It is scanned while its text comes, before libxml2 compares them in pairs. */
 struct tag_scan {
@@ -32,6 +34,7 @@ struct feed {
     struct bytes text;  /* what is kept of the text */
     uint64_t begin;     /* the offset of its first byte */
     size_t given;       /* how many of its bytes libxml2 has */
+    uint64_t skew;      /* what the offsets in the document have above those in what libxml2 has got; less than zero as a number of 64 bits */
     bool has_ended;     /* there is no more of the document */
     uint64_t place_at;  /* an offset, and its place */
     struct place place;
@@ -49,6 +52,7 @@ struct feed {
     struct control_scan controls; /* in a document of XML 1.1 */
     struct model_scan models;
     struct section section;
+    struct shortening shortening;
     const char *spelling; /* of marks in namespaces (spell_controls); NULL: these become characters */
     struct bytes room;  /* where the document's bytes are read */
     uint64_t long_at;   /* the offset of markup that is so long that its beginning is not kept, .. */
@@ -64,6 +68,7 @@ struct feed {
     uint64_t doubt_at;                  /* .. this offset; UINT64_MAX: there is none */
     void (*doubtful)(void *context, struct place place); /* is called after libxml2 got the first such code */
     void (*marked)(void *context);      /* is called after libxml2 got the first mark for a control character */
+    void (*shortened)(void *context);   /* is called after libxml2 got less of a tag or a declaration than the document has */
     void *context;
 };
 
@@ -74,8 +79,8 @@ void feed_close(struct feed *feed);
 int feed_read(void *feed, char *bytes, int length);
 
 /* The offset of a pointer into the text that an input of libxml2 has of the document. */
-static inline uint64_t feed_offset_in(const xmlParserInput *input, const xmlChar *pointer) {
-    return (uint64_t)input->consumed + (uint64_t)(pointer - input->base);
+static inline uint64_t feed_offset_in(const struct feed *feed, const xmlParserInput *input, const xmlChar *pointer) {
+    return feed->skew + (uint64_t)input->consumed + (uint64_t)(pointer - input->base);
 }
 
 /* The offset at which libxml2 is in the document. */
@@ -87,7 +92,7 @@ static inline uint64_t feed_offset(const struct feed *feed) {
         return feed->begin + feed->given;
     }
     const xmlParserInput *input = feed->parser->inputTab[0];
-    return feed_offset_in(input, input->cur);
+    return feed_offset_in(feed, input, input->cur);
 }
 
 /* Whether libxml2 reads the document itself, and not the text of an entity. */

@@ -3,6 +3,7 @@
 #define KNOWN_NAMES_H
 
 #include "events.h"
+#include "long_names.h"
 
 #include <libxml/tree.h> /* dict.h needs it */
 
@@ -20,6 +21,7 @@ struct known_name {
 struct known_names {
     const xmlChar *locals[1 << KNOWN_BITS]; /* NULL: no name is in the slot */
     struct event_name other;                /* one that is not kept */
+    const struct long_names *long_names;    /* those of which libxml2 has the beginning */
     struct known_name slots[1 << KNOWN_BITS];
 };
 

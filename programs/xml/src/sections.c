@@ -1,5 +1,7 @@
 #include "sections.h"
 
+#include "xml_names.h"
+
 #ifndef UNCUT_BYTES
 #define UNCUT_BYTES 1048576 /* of a section, before it is cut */
 #endif
@@ -12,26 +14,14 @@ static const struct section_kind {
     char beside;
 } kinds[] = {{"<![CDATA[", "]]>", "<![CDATA[", ']'}, {"<!--", "-->", "<!--", '-'}, {"<?", "?>", "<?x ", '?'}};
 
-static uint64_t offset_of(const xmlParserInput *input) {
-    return (uint64_t)input->consumed + (uint64_t)(input->cur - input->base);
-}
-
-static bool begins(struct span text, const char *with) {
-    size_t length = strlen(with);
-    return text.length >= length && memcmp(text.data, with, length) == 0;
-}
-
-static struct span from(struct span text, size_t at) {
-    return at < text.length ? (struct span){text.data + at, text.length - at} : (struct span){text.data, 0};
-}
-
-/* The kind of the section at the start of a text, or NULL. */
+/* The kind of the section at the start of a text, or NULL. The XML declaration is none. */
 static const struct section_kind *kind_of(struct span text) {
     const struct section_kind *found = NULL;
+    bool is_declaration = span_begins(text, "<?xml") && text.length > 5 && is_blank_byte(text.data[5]);
     for (size_t at = 0; at < sizeof kinds / sizeof *kinds && found == NULL; at++) {
-        found = begins(text, kinds[at].begin) ? &kinds[at] : NULL;
+        found = span_begins(text, kinds[at].begin) ? &kinds[at] : NULL;
     }
-    return found;
+    return is_declaration ? NULL : found;
 }
 
 /* Whether the end of the section is in a text. */
@@ -47,27 +37,48 @@ static bool has_end(const struct section *section, struct span text) {
     return is_found;
 }
 
+/* Looks where the data of an instruction begin, from what was searched on. */
+static void look_for_data(struct section *section, struct span text) {
+    for (size_t at = 0; at < text.length && section->data == UINT64_MAX; at++) {
+        bool is_blank = is_blank_byte(text.data[at]);
+        section->data = section->has_target && !is_blank ? section->searched + at : UINT64_MAX;
+        section->has_target |= is_blank;
+    }
+}
+
 void section_look(struct section *section, uint64_t markup, struct span text, uint64_t begin) {
     bool is_same = section->is_continued || section->is_cut || (section->begin == markup && section->searched > 0);
     if (!is_same) {
-        section->kind = markup >= begin ? kind_of(from(text, (size_t)(markup - begin))) : NULL;
+        section->kind = markup >= begin ? kind_of(span_from(text, (size_t)(markup - begin))) : NULL;
         section->begin = markup;
         section->content = markup + (section->kind == NULL ? 0 : strlen(section->kind->begin));
         section->searched = section->content;
         section->has_end = false;
+        section->has_target = false;
+        section->data = section->kind != NULL && section->kind->beside == '?' ? UINT64_MAX : section->content;
     }
     if (section->kind == NULL || section->has_end) {
         return;
     }
+    if (section->data == UINT64_MAX && section->searched >= begin) {
+        look_for_data(section, span_from(text, (size_t)(section->searched - begin)));
+    }
     uint64_t first = section->searched >= section->content + sizeof section->kind->end ? section->searched - sizeof section->kind->end : section->content;
-    section->has_end = first < begin || has_end(section, from(text, (size_t)(first - begin)));
+    section->has_end = first < begin || has_end(section, span_from(text, (size_t)(first - begin)));
     section->searched = begin + text.length;
+}
+
+void section_pass(struct section *section, uint64_t offset) {
+    if (section->kind != NULL && section->data == UINT64_MAX) {
+        section->searched = offset;
+        section->content = offset;
+    }
 }
 
 size_t section_cut_in(const struct section *section, char before, uint64_t offset, struct span next) {
     bool is_open = section->kind != NULL && !section->has_end && !section->is_cut;
     size_t found = SIZE_MAX;
-    if (!is_open || offset <= section->content || offset < section->begin + UNCUT_BYTES) {
+    if (!is_open || offset <= section->data || offset < section->begin + UNCUT_BYTES) {
         return SIZE_MAX;
     }
     for (size_t at = 0; at < next.length && at < TRIED_BYTES && found == SIZE_MAX; at++) {
@@ -89,24 +100,22 @@ size_t section_cut(struct section *section, char *text, size_t length, size_t at
     memcpy(text + at + end, section->kind->again, again);
     section->begin = offset + at;
     section->content = section->begin;
+    section->data = section->begin;
     section->is_cut = true;
     return end + again;
 }
 
-bool section_is_part(const struct section *section, xmlParserInput *input) {
-    if (!section->is_cut) {
-        return false;
-    }
-    size_t end = strlen(section->kind->end);
-    bool is_part = offset_of(input) == section->begin + end;
-    input->consumed -= is_part ? end : 0;
+bool section_is_part(const struct section *section, uint64_t offset, uint64_t *skew) {
+    size_t end = section->is_cut ? strlen(section->kind->end) : 0;
+    bool is_part = section->is_cut && offset == section->begin + end;
+    *skew -= is_part ? end : 0;
     return is_part;
 }
 
-void section_begins_again(struct section *section, xmlParserInput *input, bool is_part) {
+void section_begins_again(struct section *section, bool is_part, uint64_t *skew) {
     section->is_continued = is_part;
     if (is_part) {
         section->is_cut = false;
-        input->consumed -= strlen(section->kind->again);
+        *skew -= strlen(section->kind->again);
     }
 }

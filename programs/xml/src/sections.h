@@ -6,7 +6,6 @@
 
 #include "bytes.h"
 
-#include <libxml/parser.h>
 #include <stdint.h>
 
 enum { CUT_BYTES = 16 /* more than libxml2 gets for a cut */ };
@@ -18,6 +17,8 @@ struct section {
     const struct section_kind *kind; /* NULL: it reads none */
     uint64_t begin;    /* the offset at which it begins, or was cut last */
     uint64_t content;  /* the offset of what is in it, or behind the cut */
+    uint64_t data;     /* the same without the target of an instruction and the blanks behind it; UINT64_MAX: these go on */
+    bool has_target;   /* the target was read */
     uint64_t searched; /* the offset up to which its end was searched */
     bool has_end;      /* libxml2 has got its end */
     bool is_cut;       /* libxml2 has got the cut, and has not read it */
@@ -27,16 +28,19 @@ struct section {
 /* Looks whether the markup that libxml2 reads is a section, and for its end. The text begins with the offset `begin`, and libxml2 has got it. */
 void section_look(struct section *section, uint64_t markup, struct span text, uint64_t begin);
 
+/* Passes over bytes of the target of an instruction, up to the offset. */
+void section_pass(struct section *section, uint64_t offset);
+
 /* How many of the bytes that libxml2 gets next come before a cut; SIZE_MAX: there is none. `before` is the byte that it got last, at `offset`. */
 size_t section_cut_in(const struct section *section, char before, uint64_t offset, struct span next);
 
 /* Puts the cut behind so many bytes of a text, which has room for it. Returns how long it is. `offset` is that of the text. */
 size_t section_cut(struct section *section, char *text, size_t length, size_t at, uint64_t offset);
 
-/* Where libxml2 has read a section, or a part before a cut: returns whether it is a part, and sets its offset to that of the cut. */
-bool section_is_part(const struct section *section, xmlParserInput *input);
+/* Whether libxml2, which is at the offset, has read a part before a cut, and not a section. It takes the end of the part off what is added to the offset. */
+bool section_is_part(const struct section *section, uint64_t offset, uint64_t *skew);
 
 /* The section ends, or begins again behind the cut. */
-void section_begins_again(struct section *section, xmlParserInput *input, bool is_part);
+void section_begins_again(struct section *section, bool is_part, uint64_t *skew);
 
 #endif

@@ -115,6 +115,22 @@ class Long(InFolder):
                          f"<!--{long}--><a/><!--{long}-->"):
             self.assertEqual(self.judged(document), ("d.xml: valid\n", 0))
 
+    def test_the_end_of_a_section_in_text(self):
+        """libxml2 gets some 4,000 bytes at once, and looks for the end in these."""
+        names = []
+        for end in ("]]>", "]]]]>"):
+            for length in (*range(3_960, 4_000), *range(7_960, 8_000)):
+                names.append(self.write(f"{len(end)}-{length}.xml", f"<a>{'x' * length}{end}{'x' * 5_000}</a>").name)
+        out, status = self.judge("--all", "any.rnc", *names)
+        self.assertEqual(status, 2)
+        self.assertEqual([line for line in out.splitlines() if "Sequence ']]>' not allowed in content" not in line], [])
+
+    def test_a_long_document_type(self):
+        long = 2_000_000
+        for document, wanted in ((f"<!DOCTYPE{' ' * long}a><a/>", ("d.xml: valid\n", 0)), (f"<!DOCTYPE\na PUBLIC '{'x' * long}' ''><a/>", ("d.xml: valid\n", 0)),
+                                 (f"<!DOCTYPEa{' ' * long}><a/>", ("d.xml:1:1: malformed XML: no blank after <!DOCTYPE\n", 2))):
+            self.assert_same(self.judged(document), wanted)
+
     def test_memory(self):
         self.without_sanitizers(RNCV_XML)
         for begin, end in (("<![CDATA[", "]]>"), ("<!--", "-->"), ("<?p ", "?>")):

@@ -1,0 +1,106 @@
+#include "long_names.h"
+
+#include "runs.h"
+
+#include <stdio.h>
+#include <stdlib.h>
+
+struct long_name {
+    struct bytes text;
+    uint64_t hash;
+};
+
+void long_names_free(struct long_names *names) {
+    for (uint32_t at = 0; at < names->count; at++) {
+        bytes_free(&names->names[at].text);
+    }
+    free(names->names);
+}
+
+static uint64_t hash_of(struct span text) {
+    uint64_t hash = text.length;
+    for (size_t at = 0; at < text.length; at++) {
+        hash = (hash ^ (unsigned char)text.data[at]) * UINT64_C(0x100000001B3);
+    }
+    return hash;
+}
+
+static struct span text_of(const struct long_name *name) {
+    return (struct span){name->text.data, name->text.length};
+}
+
+static bool is_equal(const struct long_name *one, const struct long_name *other) {
+    return one->hash == other->hash && one->text.length == other->text.length && memcmp(one->text.data, other->text.data, one->text.length) == 0;
+}
+
+/* Makes room for one more name. False: out of memory. */
+static bool has_room(struct long_names *names) {
+    if (names->count < names->capacity) {
+        return true;
+    }
+    uint32_t wanted = names->capacity == 0 ? 4 : 2 * names->capacity;
+    struct long_name *longer = wanted < names->capacity ? NULL : realloc(names->names, wanted * sizeof *longer);
+    if (longer == NULL) {
+        return false;
+    }
+    names->names = longer;
+    names->capacity = wanted;
+    return true;
+}
+
+/* The number of the name; that of the next new one if it is not there. */
+static uint32_t number_of(const struct long_names *names, const struct long_name *name) {
+    uint32_t found = 0;
+    while (found < names->count && !is_equal(&names->names[found], name)) {
+        found++;
+    }
+    return found;
+}
+
+bool long_names_put(struct long_names *names, struct bytes *name, char number[NUMBER_BYTES + 1]) {
+    if (name->failed || !has_room(names)) {
+        return false;
+    }
+    struct long_name new = {*name, hash_of((struct span){name->data, name->length})};
+    uint32_t found = number_of(names, &new);
+    *name = (struct bytes)NO_BYTES;
+    if (found == names->count) {
+        names->held += new.text.capacity;
+        names->names[names->count++] = new;
+    } else {
+        bytes_free(&new.text);
+    }
+    snprintf(number, NUMBER_BYTES + 1, "%08x", (unsigned)found);
+    return true;
+}
+
+void long_names_beside(struct long_names *names, struct span text) {
+    const struct run_scan name = {.kind = RUN_NAME};
+    while (text.length > LONGEST_NAME && !names->is_doubtful) {
+        size_t length = run_length(&name, text);
+        names->is_doubtful = length > LONGEST_NAME;
+        text = span_from(text, length + 1);
+    }
+}
+
+/* The long name of which libxml2 has this; NULL: there is none. */
+static const struct long_name *found(const struct long_names *names, struct span name) {
+    char number[NUMBER_BYTES + 1] = "";
+    if (name.length <= LONGEST_NAME || name.length > LONGEST_NAME + NUMBER_BYTES) {
+        return NULL;
+    }
+    size_t kept = name.length - NUMBER_BYTES;
+    memcpy(number, name.data + kept, NUMBER_BYTES);
+    unsigned long index = strspn(number, "0123456789abcdef") == NUMBER_BYTES ? strtoul(number, NULL, 16) : names->count;
+    const struct long_name *one = index < names->count ? &names->names[index] : NULL;
+    return one != NULL && memcmp(one->text.data, name.data, kept) == 0 ? one : NULL;
+}
+
+bool long_names_have(const struct long_names *names, struct span name) {
+    return name.length <= LONGEST_NAME || found(names, name) != NULL;
+}
+
+struct span long_names_whole(const struct long_names *names, struct span name) {
+    const struct long_name *one = found(names, name);
+    return one == NULL ? name : text_of(one);
+}

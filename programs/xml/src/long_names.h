@@ -1,0 +1,40 @@
+/* Names that are too long for libxml2. It gets each with its first bytes, and a number in the place of the others. */
+#ifndef LONG_NAMES_H
+#define LONG_NAMES_H
+
+#include "bytes.h"
+
+#include <stdint.h>
+
+#ifndef LONGEST_NAME
+#define LONGEST_NAME 9000000 /* bytes that libxml2 gets of a name as they are: it takes 10,000,000 */
+#endif
+
+enum { NUMBER_BYTES = 8 };
+
+struct long_name;
+
+/* Set it to zero. */
+struct long_names {
+    struct long_name *names; /* by number */
+    uint32_t count;
+    uint32_t capacity;
+    size_t held; /* the bytes that they have */
+    bool is_doubtful; /* libxml2 may have a name that is as long, and is none of these */
+};
+
+void long_names_free(struct long_names *names);
+
+/* Writes the number of a name, which is put in if it is new. The name's text is taken: free it no more. False: out of memory. */
+bool long_names_put(struct long_names *names, struct bytes *name, char number[NUMBER_BYTES + 1]);
+
+/* Notes that libxml2 has the text of an entity as it is. */
+void long_names_beside(struct long_names *names, struct span text);
+
+/* Whether the name, which libxml2 has, is short, or is one of these. */
+bool long_names_have(const struct long_names *names, struct span name);
+
+/* The whole name of such a one. Its text stays where it is. */
+struct span long_names_whole(const struct long_names *names, struct span name);
+
+#endif
