@@ -30,6 +30,9 @@ struct fault {
 
 #define NO_FAULT {FAULT_NONE, {0, 0}, NO_BYTES, 0}
 
+/* Shortens the words of a line that nobody reads to their ends: a name may have millions of characters. */
+void shorten_words(struct bytes *line);
+
 /* Sets the first fault. A later one changes nothing. Without memory for its words, the fault is that memory ran out. */
 void fault_set(struct fault *fault, enum fault_kind kind, struct place place, const char *format, ...) __attribute__((format(printf, 4, 5)));
 /* Sets that the document breaks a clause, in the words of XML. */
