@@ -122,6 +122,11 @@ static size_t section_length(struct span text, const struct section *section) {
     return at < text.length ? at + strlen(section->end) : text.length;
 }
 
+size_t entity_text_section(struct span text) {
+    const struct section *section = section_at(text);
+    return section == NULL ? 0 : section_length(text, section);
+}
+
 bool entity_text_next(struct span *rest, struct span *name) {
     bool is_found = false;
     while (rest->length > 0 && !is_found) {

@@ -19,6 +19,9 @@ bool has_blank_reference(struct span text);
 /* Takes the text up to the next reference to an entity off the front. Comments, instructions and CDATA sections have none. False: there is none. */
 bool entity_text_next(struct span *rest, struct span *name);
 
+/* The length of the comment, the instruction or the CDATA section at the start of the text; 0: there is none. */
+size_t entity_text_section(struct span text);
+
 /* Adds the text of a parameter entity, with this mark before each percent sign that begins the data of an instruction: libxml2 takes it for a reference. */
 extern const char instruction_mark[];
 void entity_text_declarations(struct span text, struct bytes *to);

@@ -1,6 +1,7 @@
 #include "events.h"
 
 #include "declarations.h"
+#include "entity_names.h"
 #include "entity_text.h"
 #include "known_names.h"
 #include "parser_memory.h"
@@ -933,18 +934,31 @@ static xmlChar *whole_text(struct reader *reader, xmlChar *text, struct bytes *w
     return (xmlChar *)bytes_text(whole);
 }
 
+/* The text of an entity with numbers in its long names. Free the bytes. */
+static xmlChar *numbered_text(struct reader *reader, xmlChar *text, bool is_parameter, struct bytes *numbered) {
+    struct long_names *names = &reader->feed.shortening.names;
+    if (!has_long_run(span_of(text))) {
+        return text;
+    }
+    if (!add_with_numbers(names, span_of(text), is_parameter, numbered)) {
+        out_of_memory(reader);
+    }
+    return (xmlChar *)bytes_text(numbered);
+}
+
 static void take_entity(void *context, const xmlChar *name, int type, const xmlChar *public, const xmlChar *system, xmlChar *text) {
     struct reader *reader = context;
     struct bytes whole = NO_BYTES;
+    struct bytes numbered = NO_BYTES;
     struct bytes written = NO_BYTES;
     bool is_parameter = type == XML_INTERNAL_PARAMETER_ENTITY || type == XML_EXTERNAL_PARAMETER_ENTITY;
-    xmlChar *value = whole_text(reader, text, &whole);
+    xmlChar *value = numbered_text(reader, whole_text(reader, text, &whole), is_parameter, &numbered);
     check_long_name(reader, name);
-    long_names_beside(&reader->feed.shortening.names, span_of(value));
     declarations_entity(&reader->declarations, is_parameter, value);
     bool is_first = is_parameter || xmlGetDocEntity(reader->feed.parser->myDoc, name) == NULL;
     xmlSAX2EntityDecl(reader->feed.parser, name, type, public, system, kept_text(reader, type, value, &written));
     bytes_free(&written);
+    bytes_free(&numbered);
     bytes_free(&whole);
     if (!is_parameter && is_first) {
         declarations_declared(&reader->declarations, name);

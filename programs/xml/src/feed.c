@@ -363,27 +363,34 @@ static bool is_in_subset(const struct feed *feed) {
     return feed->parser != NULL && feed->parser->inSubset != 0;
 }
 
-/* The offset behind the reference to a parameter entity at the offset; the offset itself if there is none, or its name is long. */
-static uint64_t behind_reference(const struct feed *feed, uint64_t offset) {
+/* The offset behind the reference at the offset that begins with the byte; the offset itself if there is none, or its name is long. */
+static uint64_t behind_reference(const struct feed *feed, uint64_t offset, char begin) {
     uint64_t at = offset;
-    while (at < offset + SHORT_BYTES && feed_byte(feed, offset) == '%' && feed_byte(feed, at) != ';') {
+    while (at < offset + SHORT_BYTES && feed_byte(feed, offset) == begin && feed_byte(feed, at) != ';') {
         at++;
     }
     return feed_byte(feed, at) == ';' ? at + 1 : offset;
 }
 
+/* The offset behind what may be before markup: blanks, and the end of a declaration, which comes after its event. */
+static uint64_t behind_blanks(const struct feed *feed, uint64_t offset) {
+    char end = is_in_subset(feed) ? '>' : ' ';
+    while (is_blank(feed_byte(feed, offset)) || feed_byte(feed, offset) == end) {
+        offset++;
+    }
+    return offset;
+}
+
 uint64_t feed_markup(struct feed *feed) {
-    bool is_declared = is_in_subset(feed);
-    uint64_t from = feed->markup > feed->next ? feed->markup : feed->next;
-    feed->markup = from;
-    do {
-        from = feed->markup;
-        while (is_blank(feed_byte(feed, feed->markup)) || (is_declared && feed_byte(feed, feed->markup) == '>')) {
-            feed->markup++; /* the end of a declaration comes after its event */
-        }
-        feed->markup = is_declared ? behind_reference(feed, feed->markup) : feed->markup;
-    } while (feed->markup > from);
-    return feed->markup;
+    char begin = is_in_subset(feed) ? '%' : '&';
+    uint64_t markup = behind_blanks(feed, feed->markup > feed->next ? feed->markup : feed->next);
+    uint64_t behind = feed->parser == NULL ? markup : behind_reference(feed, markup, begin);
+    while (behind > markup && behind <= feed_offset(feed)) {
+        markup = behind_blanks(feed, behind); /* what the reference gave was read */
+        behind = behind_reference(feed, markup, begin);
+    }
+    feed->markup = markup;
+    return markup;
 }
 
 /* Refuses a tag with too many attributes, before all of it has come. */

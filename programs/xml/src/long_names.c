@@ -1,7 +1,5 @@
 #include "long_names.h"
 
-#include "runs.h"
-
 #include <stdio.h>
 #include <stdlib.h>
 
@@ -74,13 +72,12 @@ bool long_names_put(struct long_names *names, struct bytes *name, char number[NU
     return true;
 }
 
-void long_names_beside(struct long_names *names, struct span text) {
-    const struct run_scan name = {.kind = RUN_NAME};
-    while (text.length > LONGEST_NAME && !names->is_doubtful) {
-        size_t length = run_length(&name, text);
-        names->is_doubtful = length > LONGEST_NAME;
-        text = span_from(text, length + 1);
+size_t long_name_kept(struct span name) {
+    size_t kept = LONGEST_NAME;
+    while (((unsigned char)name.data[kept] & 0xC0) == 0x80) {
+        kept--;
     }
+    return kept;
 }
 
 /* The long name of which libxml2 has this; NULL: there is none. */

@@ -20,7 +20,7 @@ struct long_names {
     uint32_t count;
     uint32_t capacity;
     size_t held; /* the bytes that they have */
-    bool is_doubtful; /* libxml2 may have a name that is as long, and is none of these */
+    bool is_doubtful; /* libxml2 may have a name that is as long, and has no number */
 };
 
 void long_names_free(struct long_names *names);
@@ -28,8 +28,8 @@ void long_names_free(struct long_names *names);
 /* Writes the number of a name, which is put in if it is new. The name's text is taken: free it no more. False: out of memory. */
 bool long_names_put(struct long_names *names, struct bytes *name, char number[NUMBER_BYTES + 1]);
 
-/* Notes that libxml2 has the text of an entity as it is. */
-void long_names_beside(struct long_names *names, struct span text);
+/* How many bytes libxml2 gets of a long name: whole characters. */
+size_t long_name_kept(struct span name);
 
 /* Whether the name, which libxml2 has, is short, or is one of these. */
 bool long_names_have(const struct long_names *names, struct span name);

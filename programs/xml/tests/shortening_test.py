@@ -63,6 +63,7 @@ class Long:
     def declaration(self):
         name = self.chosen()
         return self.chance.choice((
+            f"<!ENTITY {name} '{self.element(2).replace(chr(39), chr(34))}'>",
             f"<!ENTITY{self.blank()}{name}{self.blank()}\"{self.value()}\"{self.blank()}>", f"<!ENTITY SYSTEM '{self.value()[:1].strip(chr(39))}'>",
             f"<!ENTITY % {name} '<!ENTITY {self.chosen()} \"v\">'> %{name};", f"<!NOTATION {name} {self.identifier()}>",
             f"<!ELEMENT {name}{self.blank()}({self.chosen()}|{self.chosen()})*>", f"<!--{self.text('x ')}-->",
@@ -120,9 +121,12 @@ class Whole(InFolder):
         for letter, other in (("a", "b"), ("\u3042", "\u3044")):
             name = letter * (12_000_000 // len(letter.encode()))
             good = (f"<r><{name} {name}='1' {name}{other}='2'>x</{name}></r>", f"<r><b xmlns:{name}='u'><{name}:b {name}:{name}=''/></b></r>",
-                    f"<!DOCTYPE r [<!ENTITY {name} 'v'><!ENTITY % {name} '<!ELEMENT r ANY>'> %{name}; <?{name}?>]><r a='&{name};'>&{name};</r>")
+                    f"<!DOCTYPE r [<!ENTITY {name} 'v'><!ENTITY % {name} '<!ELEMENT r ANY>'> %{name}; <?{name}?>]><r a='&{name};'>&{name};</r>",
+                    f"<!DOCTYPE r [<!ENTITY e '<{name}>x</{name}>'>]><r>&e;<{name}/></r>",
+                    f"<!DOCTYPE r [<!ENTITY % p '<!ENTITY {name} &#34;v&#34;>'>%p;]><r>&{name};</r>")
             bad = (f"<r><{name}>x</{name[:-1]}{other}></r>", f"<r><b {name}='1' {name}='2'/></r>", f"<r><{name}\u00d7/></r>",
-                   f"<r><b xmlns:{name}='u'><{name}{other}:b/></b></r>", f"<!DOCTYPE r [<!ENTITY {name} 'v'>]><r>&{name}{other};</r>")
+                   f"<r><b xmlns:{name}='u'><{name}{other}:b/></b></r>", f"<!DOCTYPE r [<!ENTITY {name} 'v'>]><r>&{name}{other};</r>",
+                   f"<!DOCTYPE r [<!ENTITY e '<{name}>x</{name}{other}>'>]><r>&e;</r>")
             for document in good:
                 self.assert_same(self.judged(document), ("d.xml: valid\n", 0))
             for document in bad if letter == "a" else bad[:1]:
