@@ -98,29 +98,63 @@ void declarations_entity(struct declarations *declarations, bool is_parameter, x
 /* Notes that libxml2 has the entity: a document that stands alone may not refer to one that is declared in a parameter entity. */
 void declarations_declared(struct declarations *declarations, const xmlChar *name);
 void declarations_names(struct declarations *declarations, const xmlChar *element, const xmlElementContent *content);
-void declarations_attribute(struct declarations *declarations, const xmlChar *element, const xmlChar *name, const xmlChar *value);
+
+/* Refuses a declaration if a processor that reads all of the DTD may read it otherwise, or not take it. */
+void declarations_check_behind(struct declarations *declarations);
+
+/* Refuses a name that is no QName. */
+void declarations_check_name(struct declarations *declarations, const xmlChar *name);
 
 /* Counts bytes that the document gives without having them. False: they are too many. */
 bool declarations_count(struct declarations *declarations, uint64_t bytes);
 
-/* The entity to read for a reference; NULL: there is none, or it is not read, and then there is a fault. */
-xmlEntityPtr declarations_general(struct declarations *declarations, const xmlChar *name);
-xmlEntityPtr declarations_parameter(struct declarations *declarations, const xmlChar *name);
+/* Counts bytes of texts that are written for libxml2. False: they are too many, and there is a fault. */
+bool declarations_count_written(struct declarations *declarations, uint64_t bytes);
+
+/* Refuses the document, in which something has more bytes than may be read or written for one purpose. The words have `%s` in the place of their number. */
+void declarations_refuse_part(struct declarations *declarations, const char *what);
+
+/* The most entities that may be in one another. */
+size_t declarations_most_levels(const struct declarations *declarations);
+void declarations_refuse_levels(struct declarations *declarations);
 
 /* Whether each entity that is referred to has to be declared in the document itself (XML 1.0, 4.1, WFC: Entity Declared). */
 bool declarations_are_all(const struct declarations *declarations);
+
+/* Whether external entities are read. */
+bool loads_external(const struct declarations *declarations);
+
+/* Whether libxml2 reads the text of an entity, or the external DTD. */
+bool is_in_entity(const struct feed *feed);
+
+/* The external entity as an internal one of this type. It is read once. NULL: it was not read, and there is a fault. */
+xmlEntityPtr declarations_loaded(struct declarations *declarations, xmlEntityPtr entity, xmlEntityType type);
 
 /* The entity of a name, or NULL. */
 xmlEntityPtr declarations_entity_of(struct declarations *declarations, struct span name);
 
 /* Makes the content models in a text of declarations shallow (models.h). */
 void declarations_flatten(struct declarations *declarations, char *text, size_t length);
+void declarations_flatten_twin(struct declarations *declarations, struct twin *twin);
+
+/* A new entity of our own, without text. NULL: out of memory, and there is a fault. */
+struct twin *declarations_twin(struct declarations *declarations);
 
 /* Room for a text, which stays until the document has been read. NULL: out of memory, and there is a fault. */
 xmlChar *declarations_room(struct declarations *declarations, size_t size);
 void declarations_out_of_memory(struct declarations *declarations);
 
+/* Says why the document is outside the profile. */
+void declarations_refuse(struct declarations *declarations, const char *what);
+
+/* Notes something about a name, which may be NULL. The words have `%s` in its place. */
+void declarations_note(struct declarations *declarations, struct place place, const char *what, const xmlChar *name);
+
 /* The place of the reference, the declaration or the tag at which libxml2 is. */
 struct place declarations_place(struct declarations *declarations);
+
+static inline const char *plain(const xmlChar *text) {
+    return text == NULL ? "" : (const char *)text;
+}
 
 #endif

@@ -1,7 +1,9 @@
 #include "events.h"
 
+#include "attribute_defaults.h"
 #include "declarations.h"
 #include "entity_names.h"
+#include "entity_references.h"
 #include "entity_text.h"
 #include "known_names.h"
 #include "parser_memory.h"
