@@ -15,8 +15,6 @@ enum {
     PARTS_OF_MEMORY = 8 /* into which the memory for a document is divided: texts that are written for libxml2, and external entities, have one each */
 };
 
-const char too_many_entities[] = "more than %s entities are in one another";
-
 void declarations_open(struct declarations *declarations, struct feed *feed, const struct event_sink *sink) {
     static xmlChar no_name[] = "";
     memset(declarations, 0, sizeof *declarations);
@@ -256,7 +254,8 @@ size_t declarations_most_levels(const struct declarations *declarations) {
 }
 
 void declarations_refuse_levels(struct declarations *declarations) {
-    feed_refuse(declarations->feed, declarations_place(declarations), too_many_entities, declarations_most_levels(declarations), "--max-depth");
+    static const char what[] = "more than %s entities are in one another";
+    feed_refuse(declarations->feed, declarations_place(declarations), what, declarations_most_levels(declarations), "--max-depth");
 }
 
 struct twin *declarations_twin(struct declarations *declarations) {

@@ -48,9 +48,6 @@ enum {
 #endif
 };
 
-/* The words for feed_refuse. */
-extern const char too_many_entities[];
-
 struct declarations {
     struct feed *feed;
     const struct event_sink *sink; /* gets notes */
@@ -116,6 +113,8 @@ void declarations_refuse_part(struct declarations *declarations, const char *wha
 
 /* The most entities that may be in one another. */
 size_t declarations_most_levels(const struct declarations *declarations);
+
+/* Refuses a document in which there are more. */
 void declarations_refuse_levels(struct declarations *declarations);
 
 /* Whether each entity that is referred to has to be declared in the document itself (XML 1.0, 4.1, WFC: Entity Declared). */

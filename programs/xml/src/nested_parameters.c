@@ -85,8 +85,8 @@ void nest_parameter(struct declarations *declarations, const xmlEntity *entity) 
     close_read(nested, input);
     if (nested->names != NULL && xmlHashLookup(nested->names, entity->name) != NULL) {
         fault_set(declarations->feed->fault, FAULT_MALFORMED, declarations_place(declarations), "malformed XML: recursive entity reference");
-    } else if (nested->count > 0 && nested->count + LEVELS_OF_LIBXML2 >= declarations->feed->most_depth) {
-        feed_refuse(declarations->feed, declarations_place(declarations), too_many_entities, declarations->feed->most_depth, "--max-depth");
+    } else if (nested->count > 0 && nested->count + LEVELS_OF_LIBXML2 >= declarations_most_levels(declarations)) {
+        declarations_refuse_levels(declarations);
     } else if (make_room(declarations, input, text.length + 1)) {
         open_read(declarations, entity, left_of(input));
         input->cur -= text.length + 1;

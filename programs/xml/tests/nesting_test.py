@@ -180,14 +180,25 @@ class Limits(InFolder):
         if not RNCV_XML.exists():
             self.skipTest("no rncv-xml")
 
+    @staticmethod
+    def documents(count):
+        """Documents with so many entities in one another: in content, in a value, in the DTD."""
+        chained = chain("e", count, "v")
+        parameters = "<!ENTITY % e0 ''>" + "".join(f"<!ENTITY % e{number + 1} '&#37;e{number};'>" for number in range(count))
+        return f"<!DOCTYPE a [{chained}]><a>&e;</a>", f"<!DOCTYPE a [{chained}]><a q='&e;'/>", f"<!DOCTYPE a [{parameters}%e{count};]><a/>"
+
     def test_depth(self):
         limit = "over a limit of this program: more than 10,000 entities are in one another (--max-depth)"
         for count, wanted in ((9_990, ("valid", 0)), (10_010, (limit, 2))):
-            chained = chain("e", count, "v")
-            parameters = "<!ENTITY % e0 ''>" + "".join(f"<!ENTITY % e{number + 1} '&#37;e{number};'>" for number in range(count))
-            for document in (f"<!DOCTYPE a [{chained}]><a>&e;</a>", f"<!DOCTYPE a [{chained}]><a q='&e;'/>", f"<!DOCTYPE a [{parameters}%e{count};]><a/>"):
+            for document in self.documents(count):
                 self.assertEqual(self.judged(document), wanted)
                 self.assertEqual(self.judged(document, "--max-depth", "20000"), ("valid", 0))
+
+    def test_a_depth_that_is_less_than_libxml2_reads(self):
+        limit = "over a limit of this program: more than 500 entities are in one another (--max-depth)"
+        for count, wanted in ((490, ("valid", 0)), (510, (limit, 2))):
+            for document in self.documents(count):
+                self.assertEqual(self.judged(document, "--max-depth", "100"), wanted)
 
     def test_growth(self):
         laughs = '<!ENTITY e0 "ha">' + "".join(f'<!ENTITY e{number + 1} "{f"&e{number};" * 10}">' for number in range(5))
