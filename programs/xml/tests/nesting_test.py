@@ -1,10 +1,11 @@
 """Tests of entities in one another, of which libxml2 reads some 500: below as many others an entity gives what it gives by itself."""
 import os
 import random
+import subprocess
 import time
 import unittest
 
-from testing import RNCV_XML, XML2PYX, InFolder
+from testing import HERE, RNCV_XML, XML2PYX, InFolder
 
 SYSTEMS = int(os.environ.get("RNCV_XML_SYSTEMS", "60"))
 MANY = 520
@@ -214,6 +215,25 @@ class Limits(InFolder):
         document = f"<!DOCTYPE a [<!-- {'x' * 1_000_000} -->{declared}%p{len(texts) - 1};]><a/>"
         self.assertEqual(self.judged(document, "--max-memory", "20M"), (limit, 2))
         self.assertEqual(self.judged(document), ("valid", 0))
+
+
+class Balance(InFolder):
+    """Which texts may be put into others, where libxml2 calls itself for elements in one another, by the test program in C."""
+
+    OLD = "#include <libxml/xmlversion.h>\n#undef LIBXML_VERSION\n#define LIBXML_VERSION 20910\n"
+    BUILD = """
+    cc=${CC:-cc}
+    . "$0/parser.sh"
+    for part in entity_balance entity_text bytes parser_words; do sources="$sources $0/src/$part.c"; done
+    exec $cc -std=c17 -Wall -Wextra -Wconversion -Werror -pedantic -D_XOPEN_SOURCE=700 -include "$2" -I"$0/src" $parser_flags -o "$1" \\
+        "$0/tests/balance_test.c" $sources $parser_libs
+    """
+
+    def test_an_old_libxml2(self):
+        program = self.folder / "program"
+        build = subprocess.run(["sh", "-c", self.BUILD, HERE, program, self.write("old.h", self.OLD)], capture_output=True, text=True, check=False)
+        self.assertEqual((build.returncode, build.stderr), (0, ""))
+        self.assertEqual(self.run_in(program), ("balance_test: ok\n", "", 0))
 
 
 if __name__ == "__main__":
