@@ -106,6 +106,16 @@ def plain_colons(text):
     return re.sub(r"<!(?:ELEMENT|ATTLIST|DOCTYPE)[^>\[]*", lambda it: it.group().replace(":", "_"), text)
 
 
+def brackets_by_references(text):
+    """The text with references in the place of brackets at the end of an entity, if it is XML 1.1 with a comment or CDATA. The entity gives the same text."""
+    def changed(entity):
+        return re.sub(r"(\]|&#0*93;|&#x0*5[dD];)+(?=.$)", lambda it: "&#38;#93;" * len(re.findall(r"[\];]", it.group())), entity.group())
+
+    if not re.match(r"\ufeff?<\?xml\s+version\s*=\s*[\"']1\.1[\"']", text) or not re.search(r"<!--|<!\[CDATA\[", text):
+        return text
+    return re.sub(r"<!ENTITY\s+[^\s%\"']+\s+(\"[^\"]*\"|'[^']*')", changed, text)
+
+
 # A key, a change, and whose answer about the document is that of both about the changed one: that of rncv-xml (ours) or of jing (theirs).
 CHANGES = (
     ("names", "ours", with_text(plain_names)),
@@ -115,6 +125,7 @@ CHANGES = (
     ("jing-defaults", "ours", with_text(trimmed)),
     ("jing-encodings", "ours", plain_encoding),
     ("jing-blanks", "theirs", with_text(spaced)),
+    ("jing-brackets", "ours", with_text(brackets_by_references)),
     ("jing-instructions", "ours", with_text(lambda text: text + "\n")),
     ("standalone", "theirs", with_text(not_standalone)),
     ("marks", "theirs", marked),
