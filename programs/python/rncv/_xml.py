@@ -34,9 +34,9 @@ class XmlVerdict:
     place. `notes` say what is left out of the document, such as an external DTD: each is a line with the place. `earlier` says where a document that is
     malformed or outside was invalid before that place, if it was. `hints` are verdicts on further faults of an invalid document, if they were asked for.
 
-    `reason`, `expected`, `attribute` and `datatype` are those of `rncv-xml --format json` for an invalid document: a word for what is wrong, what could have
-    been there, the attribute that is wrong or those that are missing, and the name of the datatype that a value or a text should have. They are None if that
-    is not known, and for `earlier`; `expected` is then empty.
+    `reason`, `expected`, `attribute`, `datatype` and `token` are those of `rncv-xml --format json` for an invalid document: a word for what is wrong, what
+    could have been there, the attribute that is wrong or those that are missing, the name of the datatype that a value or a text should have, and the token
+    of a list that is wrong. They are None if that is not known, and for `earlier`; `expected` is then empty.
     """
 
     kind: str
@@ -53,6 +53,7 @@ class XmlVerdict:
     attribute: Optional[str] = dataclasses.field(default=None, compare=False, repr=False)
     datatype: Optional[str] = dataclasses.field(default=None, compare=False, repr=False)
     hints: tuple[XmlVerdict, ...] = dataclasses.field(default=(), compare=False, repr=False)
+    token: Optional[str] = dataclasses.field(default=None, compare=False, repr=False)
 
     @property
     def valid(self) -> bool:
@@ -101,6 +102,7 @@ class _Answer(ctypes.Structure):
         ("datatype", ctypes.c_char_p),
         ("expected", ctypes.c_void_p),
         ("expected_count", ctypes.c_size_t),
+        ("token", ctypes.c_char_p),
     ]
 
 
@@ -334,7 +336,8 @@ class Judge:
         at = _PLACES[answer.at]
         return XmlVerdict(_KINDS[answer.verdict], answer.line, answer.column, at, None if at is None else _text(answer.name), answer.clause,
                           _text(answer.message), tuple(_lines(answer.notes)), self._earlier(), _text(answer.reason) or None,
-                          tuple(_texts(answer.expected, answer.expected_count)), _text(answer.attribute) or None, _text(answer.datatype) or None)
+                          tuple(_texts(answer.expected, answer.expected_count)), _text(answer.attribute) or None, _text(answer.datatype) or None,
+                          token=_text(answer.token) or None)
 
     def _earlier(self) -> Optional[XmlVerdict]:
         """Where the document was invalid before the place of the answer, if it was."""

@@ -227,6 +227,15 @@ class Judged(unittest.TestCase):
                 verdict = self.judged(document, validator)
                 self.assertEqual((verdict.reason, verdict.expected, verdict.attribute, verdict.datatype), wanted, document)
 
+    def test_tokens(self):
+        """Which token of a list is wrong, of hints too."""
+        with rncv.compile({"s.rnc": b"element a { attribute x { list { xsd:int+ } }, element b { list { 'v', 'w' } }* }"}, datatypes="xml-schema") as validator:
+            for document, wanted in ((b"<a x='1 n 2'/>", "n"), ("<a x='1'><b>v é x</b></a>".encode(), "é"), (b"<a x='1'><b>v w x</b></a>", "x"),
+                                     (b"<a x='1'><b>v</b></a>", None), (b"<a x='1'><c/></a>", None), (b"<a x='1'/>", None), (b"<a", None)):
+                self.assertEqual(self.judged(document, validator).token, wanted, document)
+            verdict = validator.validate_xml(b"<a x='1 n'><b>v x</b><b/></a>", hints=9)
+            self.assertEqual((verdict.token, [each.token for each in verdict.hints]), ("n", ["x", None]))
+
     def test_earlier(self):
         """A document that is malformed may have been invalid before."""
         verdict = self.validator.validate_xml(b"<a x='1'>\n <c/><b")

@@ -131,6 +131,7 @@ typedef struct rncv_xml_answer {
     const char *datatype;  /* the name of the one that the value or the text should have had; empty: none */
     const char *expected;  /* what could have been there, datatypes with their parameters: texts, each with a zero behind it, .. */
     size_t expected_count; /* .. and how many there are */
+    const char *token;     /* the one that is wrong in a list; empty: none is, or not known */
 } rncv_xml_answer;
 
 /* What a function that reads a document is handed. */

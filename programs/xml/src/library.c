@@ -556,37 +556,59 @@ static int32_t stands_of(const struct answer *answer) {
     return places[answer->stands];
 }
 
-static const char *expected_of(const struct answer *answer) {
-    return answer->expected_count == 0 ? "" : answer->expected.data;
+static rncv_xml_answer no_answer(void) {
+    return (rncv_xml_answer){.name = "", .message = "", .notes = "", .earlier_name = "", .earlier_message = "", .reason = "", .attribute = "", .datatype = "",
+                             .expected = "", .token = ""};
+}
+
+/* Ends the texts of an answer by zeros. False: out of memory. */
+static bool end_texts(struct answer *own) {
+    struct bytes *const texts[] = {&own->name, &own->message, &own->attribute, &own->datatype, &own->token};
+    bool is_good = true;
+    for (size_t at = 0; at < sizeof texts / sizeof *texts; at++) {
+        bytes_text(texts[at]);
+        is_good = is_good && !texts[at]->failed;
+    }
+    return is_good;
+}
+
+/* Hands out where a document is at fault, and by what. The texts have ended. */
+static void give_fault(const struct answer *own, rncv_xml_answer *answer) {
+    answer->at = stands_of(own);
+    answer->line = own->place.line;
+    answer->column = own->place.column;
+    answer->name = own->name.data;
+    answer->message = own->message.data;
+    answer->reason = reason_word(own->reason);
+    answer->attribute = own->attribute.data;
+    answer->datatype = own->datatype.data;
+    answer->expected = own->expected_count == 0 ? "" : own->expected.data;
+    answer->expected_count = own->expected_count;
+    answer->token = own->token.data;
 }
 
 /* The answer for the caller, and the status. Without memory for its texts there is no answer. */
 static int32_t give_answer(struct held *held, int error, rncv_xml_answer *answer) {
     static const int32_t verdicts[] = {RNCV_XML_VALID, RNCV_XML_INVALID, RNCV_XML_MALFORMED, RNCV_XML_OUTSIDE, RNCV_XML_FAILED};
     struct answer *own = &held->answer;
-    const char *name = bytes_text(&own->name);
-    const char *message = bytes_text(&own->message);
     const char *notes = joined_notes(held);
-    const char *attribute = bytes_text(&own->attribute);
-    const char *datatype = bytes_text(&own->datatype);
-    bool is_lost = own->name.failed || own->message.failed || held->notes.failed || own->notes_failed || own->attribute.failed || own->datatype.failed;
-    if (own->earlier != NULL) {
-        bytes_text(&own->earlier->name);
-        bytes_text(&own->earlier->message);
-        is_lost = is_lost || own->earlier->name.failed || own->earlier->message.failed;
-    }
-    if (is_lost || (own->verdict == VERDICT_FAILED && (message[0] == '\0' || strcmp(message, "out of memory") == 0))) {
+    *answer = no_answer();
+    bool has_texts = end_texts(own) && (own->earlier == NULL || end_texts(own->earlier)) && !held->notes.failed && !own->notes_failed;
+    if (!has_texts || (own->verdict == VERDICT_FAILED && (own->message.length == 0 || strcmp(own->message.data, "out of memory") == 0))) {
         return RNCV_MEMORY;
     }
-    *answer = (rncv_xml_answer){verdicts[own->verdict], stands_of(own), own->clause, error, own->place.line, own->place.column,
-                                name, message, notes, own->note_count + (held->common->unsound.length > 0), RNCV_XML_AT_UNKNOWN, 0, 0, "", "",
-                                reason_word(own->reason), attribute, datatype, expected_of(own), own->expected_count};
+    give_fault(own, answer);
+    answer->verdict = verdicts[own->verdict];
+    answer->clause = own->clause;
+    answer->error = error;
+    answer->notes = notes;
+    answer->note_count = own->note_count + (held->common->unsound.length > 0);
     if (own->earlier != NULL) {
         answer->earlier_at = stands_of(own->earlier);
         answer->earlier_line = own->earlier->place.line;
         answer->earlier_column = own->earlier->place.column;
-        answer->earlier_name = bytes_text(&own->earlier->name);
-        answer->earlier_message = bytes_text(&own->earlier->message);
+        answer->earlier_name = own->earlier->name.data;
+        answer->earlier_message = own->earlier->message.data;
     }
     return RNCV_DONE;
 }
@@ -609,11 +631,6 @@ static int32_t judge_reading(struct held *held, const struct byte_source *source
     judge_by(&held->judge, source, &held->answer);
     held->is_busy = false;
     return give_answer(held, reading->error, answer);
-}
-
-static rncv_xml_answer no_answer(void) {
-    return (rncv_xml_answer){.name = "", .message = "", .notes = "", .earlier_name = "", .earlier_message = "", .reason = "", .attribute = "", .datatype = "",
-                             .expected = ""};
 }
 
 /* Whether a document can be judged. Writes an answer without a verdict. */
@@ -666,11 +683,7 @@ static void drop_wordless(struct answer *own) {
     size_t kept = 0;
     for (size_t at = 0; at < own->hint_count; at++) {
         struct answer *hint = &own->hints[at];
-        bytes_text(&hint->name);
-        bytes_text(&hint->message);
-        bytes_text(&hint->attribute);
-        bytes_text(&hint->datatype);
-        if (hint->name.failed || hint->message.failed || hint->attribute.failed || hint->datatype.failed) {
+        if (!end_texts(hint)) {
             answer_free(hint);
         } else {
             own->hints[kept++] = *hint;
@@ -702,17 +715,7 @@ int32_t rncv_xml_judge_hint(rncv_xml_judge *judge, size_t index, rncv_xml_answer
     if (index >= own->hint_count) {
         return RNCV_MISUSE;
     }
-    struct answer *hint = &own->hints[index];
     answer->verdict = RNCV_XML_INVALID;
-    answer->at = stands_of(hint);
-    answer->line = hint->place.line;
-    answer->column = hint->place.column;
-    answer->name = bytes_text(&hint->name);
-    answer->message = bytes_text(&hint->message);
-    answer->reason = reason_word(hint->reason);
-    answer->attribute = bytes_text(&hint->attribute);
-    answer->datatype = bytes_text(&hint->datatype);
-    answer->expected = expected_of(hint);
-    answer->expected_count = hint->expected_count;
+    give_fault(&own->hints[index], answer);
     return RNCV_DONE;
 }

@@ -67,7 +67,8 @@ static const char *const documents[] = {
     "<a x='1' i='p' xmlns:n='u'><b r='q'/><b r='p'/></a>",
     "<a x='1' i='-'/>",
     "<?xml version='1.1'?><!DOCTYPE a [<!ENTITY e '&#2;'><!ENTITY t '&#38;#9;'>]><a x='1&e;&#1;' xmlns:n='u&t;'>&e;<b/>&#3;</a>",
-    "<a x='2' xmlns:n='u'><b s='1'>text</b></a>",
+    "<a x='1' l='1 3'/>",
+    "<a x='2' xmlns:n='u'><b s='1'>text</b><b l='1 3'/></a>",
 };
 
 enum { DOCUMENTS = sizeof documents / sizeof *documents, HINTED = DOCUMENTS - 1, MOST = 100000 };
@@ -76,6 +77,7 @@ enum { DOCUMENTS = sizeof documents / sizeof *documents, HINTED = DOCUMENTS - 1,
 struct kept {
     int32_t verdict;
     char message[200];
+    char token[8];
 };
 
 static int32_t judge(rncv_xml_judge *judge, size_t at, struct kept *kept) {
@@ -83,7 +85,13 @@ static int32_t judge(rncv_xml_judge *judge, size_t at, struct kept *kept) {
     int32_t status = rncv_xml_judge_bytes(judge, documents[at], strlen(documents[at]), &answer);
     kept->verdict = answer.verdict;
     snprintf(kept->message, sizeof kept->message, "%s", answer.message);
+    snprintf(kept->token, sizeof kept->token, "%s", answer.token);
     return status;
+}
+
+/* Whether a token that is told is told in whole. */
+static bool is_whole(const char *token, const char *wanted) {
+    return token[0] == '\0' || strcmp(token, wanted) == 0;
 }
 
 /* Judges a document with growths refused, and then without. False: nothing was refused. */
@@ -94,8 +102,10 @@ static bool refuse_in_document(rncv_xml_judge *judged, size_t at, long after, co
     bool was_refused = left < 0 || (refuses_all && left == 0);
     left = -1;
     check(status == RNCV_MEMORY ? kept.verdict == RNCV_XML_FAILED : status == RNCV_DONE && kept.verdict == wanted->verdict, documents[at], after);
+    check(is_whole(kept.token, wanted->token), "a token", after);
     status = judge(judged, at, &kept);
-    check(status == RNCV_DONE && kept.verdict == wanted->verdict && strcmp(kept.message, wanted->message) == 0, "the next document", after);
+    bool is_same = kept.verdict == wanted->verdict && strcmp(kept.message, wanted->message) == 0 && strcmp(kept.token, wanted->token) == 0;
+    check(status == RNCV_DONE && is_same, "the next document", after);
     return was_refused;
 }
 
@@ -167,6 +177,7 @@ static bool refuse_in_hints(size_t at, long after, size_t wanted) {
     check(status == RNCV_DONE && (was_refused ? count <= wanted : count == wanted), "hints", after);
     for (size_t index = 0; index < count; index++) {
         check(rncv_xml_judge_hint(&judged, index, &hint) == RNCV_DONE && hint.line > 0 && strncmp(hint.message, "hint: ", 6) == 0, "a hint", after);
+        check(is_whole(hint.token, "3"), "a token of a hint", after);
     }
     check(judge(&judged, 0, &kept) == RNCV_DONE && kept.verdict == RNCV_XML_VALID, "the document after hints", after);
     rncv_xml_judge_free(&judged);
@@ -175,7 +186,7 @@ static bool refuse_in_hints(size_t at, long after, size_t wanted) {
 
 static void refuse_hints(void) {
     long after = 0;
-    while (after < MOST && refuse_in_hints(HINTED, after, 2)) {
+    while (after < MOST && refuse_in_hints(HINTED, after, 3)) {
         after++;
     }
     check(after > 20 && after < MOST, "some growths of hints are refused", after);
@@ -227,8 +238,9 @@ int main(int count, char **words) {
         return EXIT_FAILURE;
     }
     write_file("s.rnc", "include 'part.rnc' start = a\n");
-    write_file("part.rnc", "a = element a { attribute x { '1' }, attribute i { xsd:NCName { minLength = '000000001' } }?, (text | b)* }\n"
-                           "b = element b { attribute r { xsd:NCName { minLength = '00000001' } }? }\n# rncv-profile: 2 ID-types marked, see s.profile.txt\n");
+    write_file("part.rnc", "a = element a { attribute x { '1' }, l?, attribute i { xsd:NCName { minLength = '000000001' } }?, (text | b)* }\n"
+                           "b = element b { l?, attribute r { xsd:NCName { minLength = '00000001' } }? }\nl = attribute l { list { '1', '2' } }\n"
+                           "# rncv-profile: 2 ID-types marked, see s.profile.txt\n");
     write_file("lost.rnc", "include 'none.rnc'\n");
     write_file("named.rnc", "namespace a = 'a' [ a:x = '' a:x = '' ] element a { empty }\n");
     write_file("hinted.rnc", "element a { attribute b { text }, attribute b { text } }\n");

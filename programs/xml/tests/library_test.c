@@ -201,6 +201,33 @@ static void further(rncv_xml_judge *judge) {
     }
 }
 
+/* Which token of a list is wrong. */
+static void tokens(void) {
+    static const struct {
+        const char *document, *token;
+    } told[] = {
+        {"<a x='1 2'><b>v w</b></a>", ""},
+        {"<a y='1'/>", ""},
+        {"<a x='1'><b>v</b></a>", ""},
+        {"<a x='1'><b>v w x</b></a>", "x"},
+        {"<a x='1'><b>v\n\xC3\xA9 x</b></a>", "\xC3\xA9"},
+        {"<a x='1 3 2 4'><b>v x</b></a>", "3"},
+    };
+    const char *last = told[sizeof told / sizeof *told - 1].document;
+    rncv_xml_judge judge = RNCV_XML_NOTHING;
+    rncv_xml_answer answer;
+    write_file("lists.rnc", "element a { attribute x { list { ('1' | '2')+ } }, element b { list { 'v', 'w' } }* }");
+    CHECK(rncv_xml_judge_open("lists.rnc", NULL, 0, &judge, NULL) == RNCV_DONE);
+    for (size_t at = 0; at < sizeof told / sizeof *told; at++) {
+        CHECK(rncv_xml_judge_bytes(&judge, told[at].document, strlen(told[at].document), &answer) == RNCV_DONE);
+        CHECK(strcmp(answer.token, told[at].token) == 0);
+    }
+    CHECK(hints_of(&judge, last, 9) == 1 && rncv_xml_judge_hint(&judge, 0, &answer) == RNCV_DONE && strcmp(answer.token, "x") == 0);
+    CHECK(rncv_xml_judge_hint(&judge, 1, &answer) == RNCV_MISUSE && answer.token[0] == '\0');
+    CHECK(rncv_xml_judge_file(&judge, "none.xml", &answer) == RNCV_DONE && answer.token[0] == '\0');
+    rncv_xml_judge_free(&judge);
+}
+
 static void answers(rncv_xml_judge *judge) {
     rncv_xml_answer answer;
     for (size_t at = 0; at < ROWS; at++) {
@@ -208,6 +235,7 @@ static void answers(rncv_xml_judge *judge) {
     }
     reasons(judge);
     further(judge);
+    tokens();
     /* a document with a note */
     const char *noted = "<!DOCTYPE a SYSTEM 'a.dtd'><a x='1'><b>two</b></a>";
     CHECK(rncv_xml_judge_bytes(judge, noted, strlen(noted), &answer) == RNCV_DONE && answer.verdict == RNCV_XML_VALID);
