@@ -136,7 +136,7 @@ static int report_at(struct bytes *path, struct place place, struct bytes *what,
         }
         bytes_add_text(&line, ": ");
     }
-    bytes_add(&line, what->data, what->length);
+    add_shown(&line, what->data, what->length, SIZE_MAX);
     bool is_lost = line.failed || what->failed;
     const char *text = bytes_text(&line);
     write_error_line(is_lost || line.failed ? no_memory : text);

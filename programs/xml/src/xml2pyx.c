@@ -1,5 +1,6 @@
 /* xml2pyx: writes the PYX of an XML document to standard output. */
 #include "program.h"
+#include "shown.h"
 
 #include <errno.h>
 #include <fcntl.h>
@@ -76,38 +77,47 @@ static bool put(void *context, const struct piece *piece) {
     return true;
 }
 
-static void note(void *context, struct place place, const char *what) {
-    struct writing *writing = context;
+/* Writes words to standard error, as a line in which control characters are shown. Frees the words. False: out of memory. */
+static bool report_words(struct bytes *words) {
     struct bytes line = NO_BYTES;
-    bytes_format(&line, "%s:%" PRIu64 ":%" PRIu64 ": note: %s", writing->document, place.line, place.column, what);
+    add_shown(&line, words->data, words->length, SIZE_MAX);
     const char *text = bytes_text(&line);
-    writing->is_note_lost |= line.failed;
-    if (!line.failed) {
+    bool is_good = !words->failed && !line.failed;
+    if (is_good) {
         write_error_line(text);
     }
     bytes_free(&line);
+    bytes_free(words);
+    return is_good;
+}
+
+static void note(void *context, struct place place, const char *what) {
+    struct writing *writing = context;
+    struct bytes words = NO_BYTES;
+    bytes_format(&words, "%s:%" PRIu64 ":%" PRIu64 ": note: %s", writing->document, place.line, place.column, what);
+    writing->is_note_lost |= !report_words(&words);
 }
 
 /* Reports a fault, and returns the exit status. */
 static int report_fault(const char *document, struct fault *fault) {
-    struct bytes line = NO_BYTES;
+    struct bytes words = NO_BYTES;
     if (fault->kind == FAULT_NONE) {
         return STATUS_VALID;
     }
     const char *what = fault->kind == FAULT_MEMORY ? "out of memory" : bytes_text(&fault->what);
     bool is_document = fault->kind == FAULT_MALFORMED || fault->kind == FAULT_OUTSIDE;
     if (is_document) {
-        bytes_format(&line, "%s:%" PRIu64 ":%" PRIu64 ": %s", document, fault->place.line, fault->place.column, what);
+        bytes_format(&words, "%s:%" PRIu64 ":%" PRIu64 ": %s", document, fault->place.line, fault->place.column, what);
     } else if (strcmp(document, "-") == 0) {
-        bytes_format(&line, "xml2pyx: %s", what);
+        bytes_format(&words, "xml2pyx: %s", what);
     } else {
-        bytes_format(&line, "xml2pyx: %s: %s", what, document);
+        bytes_format(&words, "xml2pyx: %s: %s", what, document);
     }
-    const char *text = bytes_text(&line);
-    write_error_line(line.failed ? "xml2pyx: out of memory" : text);
-    is_document &= !line.failed;
-    bytes_free(&line);
-    return is_document ? STATUS_MALFORMED : STATUS_FAILED;
+    bool is_told = report_words(&words);
+    if (!is_told) {
+        write_error_line("xml2pyx: out of memory");
+    }
+    return is_document && is_told ? STATUS_MALFORMED : STATUS_FAILED;
 }
 
 static int run(const struct options *options, struct streams streams) {

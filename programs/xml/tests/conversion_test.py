@@ -683,6 +683,16 @@ class Programs(InFolder):
         self.assertEqual(self.run_in(XML2PYX, ".")[1:], ("xml2pyx: Is a directory: .\n", 4))
         self.assertEqual(self.run_in(XML2PYX, "--", "good.xml")[2], 0)
 
+    def test_names_stay_on_their_line(self):
+        self.write("-a\n\u2028\x1b \u00e9.xml", "<a>")
+        self.assertEqual(self.run_in(XML2PYX, "./-a\n\u2028\x1b \u00e9.xml")[1:], (
+            "./-a\\n\\u2028\\x1b \u00e9.xml:1:4: malformed XML: the document ends where <a> is open\n", 2))
+        self.assertEqual(self.run_in(XML2PYX, "none\n.xml")[1:], ("xml2pyx: No such file or directory: none\\n.xml\n", 4))
+        self.assertEqual(self.run_in(XML2PYX, "--lines", "none\n/lines", "good.xml")[1:], ("xml2pyx: No such file or directory: none\\n/lines\n", 4))
+        self.write("a\nb.xml", "<!DOCTYPE a SYSTEM 'c\nd'><a/>")
+        self.assertEqual(self.run_in(XML2PYX, "a\nb.xml")[1:], (
+            "a\\nb.xml:1:1: note: the external DTD 'c\\nd' is not loaded: its entities and attribute defaults are not there\n", 0))
+
     def test_streams(self):
         self.assertEqual(self.shell("xml2pyx - <&-"), ("xml2pyx: standard input is closed\n", 4))
         self.assertEqual(self.shell("xml2pyx good.xml >&-"), ("xml2pyx: standard output is closed\n", 4))

@@ -324,6 +324,8 @@ class Files(InRng):
         self.assertRegex(self.convert("--help")[0], r"^usage: rng2rnc ")
         self.assertRegex(self.convert("--version")[0], r"^rng2rnc \d+\.\d+\.\d+\n$")
         self.assertEqual(self.convert("none.rng"), ("", "rng2rnc: cannot read file none.rng: No such file or directory\n", 4))
+        self.assertEqual(self.convert("-a.rng")[2], 5)
+        self.assertEqual(self.convert("no\n\x1bne \u00e9.rng"), ("", "rng2rnc: cannot read file no\\n\\x1bne \u00e9.rng: No such file or directory\n", 4))
         self.assertEqual(self.convert("s.rnc"), ("", "s.rnc: this is no schema in the XML syntax\n", 3))
         self.write("x.rng", schema("<text @/>"))
         self.assertEqual(self.convert("-o", "x.rng", "x.rng")[2], 4)
