@@ -141,9 +141,9 @@ class Calls(WithCalls, InC):
 class Python(Programs):
     """The programs in Python. If standard input is a folder, the interpreter ends before any of them begins."""
 
-    def run_python(self, *words, **more):
-        """A run with Python's own buffers, as for users. Wants no traceback or exception on standard error."""
-        answer = self.run_program(sys.executable, ("-B", *words), given=DOCUMENT, environment={"PYTHONUNBUFFERED": ""}, **more)
+    def run_python(self, *words, unbuffered="", **more):
+        """A run with Python's own buffers, as for most users. Wants no traceback or exception on standard error."""
+        answer = self.run_program(sys.executable, ("-B", *words), given=DOCUMENT, environment={"PYTHONUNBUFFERED": unbuffered}, **more)
         self.assertNotIn(b"Traceback", answer[2] or b"")
         self.assertNotIn(b"Exception", answer[2] or b"")
         return answer
@@ -165,6 +165,22 @@ class Python(Programs):
             self.assertEqual(self.run_python(PROFILE, "date.rnc", **streams), (1, found, None))
             self.assertEqual(self.run_python(PROFILE, "s.rnc", "none.rnc", **streams), (4, b"", None))
         self.assertEqual(self.run_python(PROFILE, "date.rnc", closed=[0, 1, 2]), (4, None, None))
+
+    def test_help(self):
+        """It is reported if it cannot be written, whether Python holds it back or not. Wrong words give nothing on standard output."""
+        for program, name in ((PROFILE, b"rncv-profile"), (CONVERTER, b"xml2pyx")):
+            for unbuffered in ("", "1"):
+                for reported, status, streams in self.outputs():
+                    wanted = name + f": {reported}\n".encode() if reported else b""
+                    self.assertEqual(self.run_python(program, "--help", unbuffered=unbuffered, **streams), (status, None, wanted))
+                for streams in ({"closed": [2]}, {"stderr": self.full()}):
+                    self.assertEqual(self.run_python(program, "--other", unbuffered=unbuffered, **streams), (4, b"", None))
+
+    def test_names_stay_on_their_line(self):
+        self.write("a\n\x1b.rnc", b"element a { xsd:date }")
+        self.write("a\n\x1b.xml", b"<a")
+        self.assertEqual(self.run_python(PROFILE, "a\n\x1b.rnc"), (1, b"a\\n\\x1b.rnc:1:13: the datatype xsd:date is not served\n", b""))
+        self.assertEqual(self.run_python(CONVERTER, "a\n\x1b.xml"), (4, b"", b"a\\n\\x1b.xml:1:1: malformed XML: unclosed token\n"))
 
     def test_names_that_are_not_utf_8(self):
         with open(os.fsencode(self.folder) + b"/caf\xe9.rnc", "wb") as file:

@@ -2,10 +2,11 @@
 from __future__ import annotations
 
 import argparse
+import errno
 import gc
 import os
 import sys
-from typing import Any
+from typing import Any, NoReturn
 
 from rncv_lsp import DATATYPES, MOST_FAULTS, USUAL_FAULTS
 from rncv_lsp.versions import shown_version
@@ -30,6 +31,25 @@ def failed(why: str) -> int:
     return 1
 
 
+def write_out(text: str) -> None:
+    """Writes to standard output, or raises an error."""
+    if sys.stdout is None:
+        raise OSError(errno.EBADF, "it is closed")
+    print(text, end="", flush=True)
+
+
+class Parser(argparse.ArgumentParser):
+    """Help that cannot be written raises an error."""
+
+    def print_help(self, file: Any = None) -> None:
+        write_out(self.format_help())
+
+    def error(self, message: str) -> NoReturn:
+        if sys.stderr is None:
+            self.exit(2)  # argparse would write to standard output
+        super().error(message)
+
+
 class PrintVersion(argparse.Action):
     """Prints the version, and ends the process. Only then is the library loaded."""
 
@@ -37,7 +57,7 @@ class PrintVersion(argparse.Action):
         super().__init__(option_strings, dest, nargs=0, help="show program's version number and exit")
 
     def __call__(self, parser: argparse.ArgumentParser, *others: Any) -> None:
-        print(f"rncv-lsp {shown_version()}")
+        write_out(f"rncv-lsp {shown_version()}\n")
         parser.exit()
 
 
@@ -47,13 +67,8 @@ def parse_arguments(parser: argparse.ArgumentParser) -> argparse.Namespace:
         return parser.parse_args()
     except OSError as error:
         os._exit(failed(f"standard output: {error.strerror}"))
-    except SystemExit:
-        try:
-            if sys.stdout is not None:
-                sys.stdout.flush()
-        except OSError as error:
-            os._exit(failed(f"standard output: {error.strerror}"))
-        raise
+    except SystemExit as end:
+        os._exit(int(end.code or 0))  # the interpreter has another status if standard error cannot be written
 
 
 def faults_wanted(words: str) -> int:
@@ -65,7 +80,7 @@ def faults_wanted(words: str) -> int:
 
 def main() -> None:
     """Runs the server, and ends the process with its status."""
-    parser = argparse.ArgumentParser(prog="rncv-lsp", description=DESCRIPTION)
+    parser = Parser(prog="rncv-lsp", description=DESCRIPTION)
     parser.add_argument("--version", action=PrintVersion)
     parser.add_argument("--stdio", action="store_true", help="use the standard streams (it always does)")
     parser.add_argument("--datatypes", choices=DATATYPES, default=DATATYPES[0],

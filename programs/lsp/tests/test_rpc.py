@@ -64,11 +64,23 @@ class Ends(WithServer):
 
     @unittest.skipUnless(os.path.exists("/dev/full"), "no /dev/full here")
     def test_output_that_cannot_be_written(self):
-        for words in (["--version"], ["--help"]):
-            with open("/dev/full", "wb") as full:
-                run = subprocess.run([sys.executable, str(SERVER), *words], stdout=full, stderr=subprocess.PIPE, timeout=120, check=False,
-                                     env={name: value for name, value in os.environ.items() if name != "PYTHONUNBUFFERED"})
-            self.assertEqual((run.returncode, run.stderr.count(b"\n")), (1, 1), run.stderr)
+        """It is full or closed, and Python holds it back or not."""
+        for words, unbuffered in ((words, unbuffered) for words in ("--version", "--help") for unbuffered in ("", "1")):
+            for stream, why in ((">/dev/full", "No space left on device"), (">&-", "it is closed")):
+                self.assertEqual(self.ended_in_shell(words, stream, unbuffered), (1, "", f"rncv-lsp: standard output: {why}\n"), (words, unbuffered))
+
+    @unittest.skipUnless(os.path.exists("/dev/full"), "no /dev/full here")
+    def test_errors_that_cannot_be_written(self):
+        for stream, unbuffered in ((stream, unbuffered) for stream in ("2>/dev/full", "2>&-", "2</dev/null") for unbuffered in ("", "1")):
+            self.assertEqual(self.ended_in_shell("--other", stream, unbuffered), (2, "", ""), (stream, unbuffered))
+            self.assertEqual(self.ended_in_shell("--help", stream, unbuffered)[::2], (0, ""), (stream, unbuffered))
+
+    @staticmethod
+    def ended_in_shell(words, stream, unbuffered):
+        """The status of the program with these words and a stream, and what it printed."""
+        run = subprocess.run(["sh", "-c", f'exec "$@" {stream}', "sh", sys.executable, str(SERVER), words], stdin=subprocess.DEVNULL, capture_output=True,
+                             text=True, timeout=120, check=False, env={**os.environ, "PYTHONUNBUFFERED": unbuffered})
+        return run.returncode, run.stdout, run.stderr
 
     @unittest.skipUnless(sys.platform == "linux", "the limit of memory holds on Linux only")
     def test_little_memory(self):

@@ -1,11 +1,28 @@
-"""How the programs of this folder write lines and end: without a traceback. Nothing here is proved."""
+"""How the programs of this folder read their words, write lines and end: without a traceback. Nothing here is proved."""
+import argparse
 import errno
 import os
 import sys
 
+# Characters that would break a line, or change a terminal, as rncv-xml shows them.
+SHOWN = {**{code: f"\\x{code:02x}" for code in (*range(0x20), *range(0x7F, 0xA0))}, 9: "\\t", 10: "\\n", 13: "\\r", 0x2028: "\\u2028", 0x2029: "\\u2029"}
+
+
+class Words(argparse.ArgumentParser):
+    """The words of a command line. Help that cannot be written raises an error."""
+
+    def print_help(self, file=None):
+        put(self.format_help())
+
+    def error(self, message):
+        if sys.stderr is None:
+            self.exit(2)  # argparse would write to standard output
+        super().error(message)
+
 
 def line_bytes(text):
-    """The bytes of a line. Names of files keep their bytes. A character that the encoding does not have is escaped."""
+    """The bytes of a line. Names of files keep their bytes, but for characters that are shown. A character that the encoding does not have is escaped."""
+    text = text.translate(SHOWN)
     try:
         return os.fsencode(text + "\n")
     except UnicodeEncodeError:
@@ -17,6 +34,12 @@ def binary(stream, name):
     if stream is None:
         raise OSError(errno.EBADF, f"{name} is closed")
     return stream.buffer
+
+
+def put(text):
+    output = binary(sys.stdout, "standard output")
+    output.write(text.encode("utf-8", "backslashreplace"))
+    output.flush()
 
 
 def put_line(text):
