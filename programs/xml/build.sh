@@ -34,7 +34,17 @@ compile() {
     done
 }
 
-objects() { for source in "$@"; do printf '%s ' "$work/$source.o"; done; }
+# Makes a program of these sources. Names of folders may have blanks.
+link_program() {
+    program=$1
+    shift
+    count=$#
+    for source in "$@"; do set -- "$@" "$work/$source.o"; done
+    shift "$count"
+    [ "$program" = xml2pyx ] || set -- "$@" "$library/lib/librncv.a"
+    $cc $linked ${CFLAGS:--O2} -o "$work/$program" "$@" $parser_libs -lpthread ${LIBS:-}
+    mv "$work/$program" "$folder/$program"
+}
 
 shared="$parser_parts program"
 rng="rng_tree rng_namespaces rng_grammar rng_uri rng_prefixes rng_words rng_patterns rng_writer"
@@ -47,14 +57,11 @@ judging="$reading $ids $hints options clause_page documents event_log library_ca
 converting="$reading $ids schema_asked event_log library_calls judging $telling"
 
 compile $shared xml2pyx
-$cc $linked ${CFLAGS:--O2} -o "$work/xml2pyx" $(objects $shared xml2pyx) $parser_libs -lpthread ${LIBS:-}
-mv "$work/xml2pyx" "$folder/xml2pyx"
+link_program xml2pyx $shared xml2pyx
 [ "${ONLY:-}" != xml2pyx ] || exit 0
 
 [ -f "$library/include/rncv.h" ] && [ -f "$library/lib/librncv.a" ] ||
     missing "no librncv in $library: build it by programs/library/build.sh, or name its folder by RNCV_LIBRARY"
 compile $judging rncv-xml rng2rnc
-$cc $linked ${CFLAGS:--O2} -o "$work/rncv-xml" $(objects $shared $judging rncv-xml) "$library/lib/librncv.a" $parser_libs -lpthread ${LIBS:-}
-mv "$work/rncv-xml" "$folder/rncv-xml"
-$cc $linked ${CFLAGS:--O2} -o "$work/rng2rnc" $(objects $shared $converting rng2rnc) "$library/lib/librncv.a" $parser_libs -lpthread ${LIBS:-}
-mv "$work/rng2rnc" "$folder/rng2rnc"
+link_program rncv-xml $shared $judging rncv-xml
+link_program rng2rnc $shared $converting rng2rnc

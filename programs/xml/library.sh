@@ -49,11 +49,11 @@ version=$major.$(number MINOR).$(number PATCH)
 # The library stays where it is once it is loaded: it gives libxml2 functions for memory, which another user of libxml2 in the process may call.
 flags="$("$top/programs/packaging/hardening.sh" objects) $flags"
 linked="$("$top/programs/packaging/hardening.sh" library) -Wl,-z,nodelete"
-objects=
+set -- # the objects
 for part in $parts; do
     # shellcheck disable=SC2086
     $cc $flags $parser_flags ${CFLAGS:--O2} -I"$here/include" -I"$library/include" -c -o "$work/$part.o" "$here/src/$part.c"
-    objects="$objects $work/$part.o"
+    set -- "$@" "$work/$part.o"
 done
 
 # One object, with what the functions of the header need: none of what a program does at its start and its end. It exports only their names.
@@ -62,7 +62,7 @@ for name in $(grep -oE '\brncv_xml_[a-z_]+\(' "$here/include/rncv_xml.h" | tr -d
     roots="$roots -u $name"
 done
 # shellcheck disable=SC2086
-ld -r --gc-sections $roots -o "$work/rncv_xml.o" $objects
+ld -r --gc-sections $roots -o "$work/rncv_xml.o" "$@"
 objcopy --wildcard --keep-global-symbol='rncv_xml_*' "$work/rncv_xml.o"
 case " ${CFLAGS:-} " in
 *" -g"*) ;; # who debugs it needs the names

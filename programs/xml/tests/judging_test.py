@@ -3,6 +3,7 @@ import itertools
 import json
 import os
 import re
+import shlex
 import signal
 import subprocess
 import sys
@@ -585,14 +586,14 @@ class Formats(InFolder):
         self.assertEqual(self.judge("--source", "s.rnc", "new.xml")[0], plain.replace("bad.xml:3:3", "new.xml:5:3") + shown)
         for more, wanted in (({}, colored + shown), ({"NO_COLOR": "1"}, plain + shown), ({"TERM": "dumb"}, plain + shown)):
             # without a terminal for errors, on which a slow run shows its progress
-            run = subprocess.run(["script", "-qec", f"{RNCV_XML} s.rnc bad.xml 2> /dev/null", "/dev/null"], cwd=self.folder, stdin=subprocess.DEVNULL,
+            run = subprocess.run(["script", "-qec", f"{shlex.quote(str(RNCV_XML))} s.rnc bad.xml 2> /dev/null", "/dev/null"], cwd=self.folder, stdin=subprocess.DEVNULL,
                                  capture_output=True, check=False, env={**environment, "TERM": "xterm", **more})
             self.assertEqual(run.stdout.decode().replace("\r\n", "\n"), wanted)
 
     def test_progress(self):
         self.wanted("script", "sh")
-        command = f"(sleep 1.3; cat good.xml) | {RNCV_XML} --no-source s.rnc bad.xml - cut.xml"
-        run = subprocess.run(["script", "-qec", f"sh -c '{command}'", "/dev/null"], cwd=self.folder, stdin=subprocess.DEVNULL, capture_output=True,
+        command = f"(sleep 1.3; cat good.xml) | {shlex.quote(str(RNCV_XML))} --no-source s.rnc bad.xml - cut.xml"
+        run = subprocess.run(["script", "-qec", f"sh -c {shlex.quote(command)}", "/dev/null"], cwd=self.folder, stdin=subprocess.DEVNULL, capture_output=True,
                              check=False, env={**os.environ, "NO_COLOR": "1"})
         self.assertIn(b" of 3 documents, 0 MB", run.stdout)
         self.assertTrue(run.stdout.rstrip().endswith(b"\r\x1b[Kcut.xml:3:1: malformed XML: mismatched tag: </a> where <b> is open"), run.stdout)

@@ -52,7 +52,8 @@ class Variant(InFolder):
     def setUp(self):
         super().setUp()
         flags = {"CFLAGS": "-O1 -DUNCUT_BYTES=1 -DLEVELS_OF_LIBXML2=0", "ONLY": "xml2pyx"}
-        build = subprocess.run([HERE / "build.sh", self.folder / "variant"], capture_output=True, text=True, check=False, env={**os.environ, **flags})
+        self.program = self.folder / "a variant/xml2pyx"
+        build = subprocess.run([HERE / "build.sh", self.program.parent], capture_output=True, text=True, check=False, env={**os.environ, **flags})
         self.assertEqual((build.returncode, build.stderr), (0, ""))
 
     def converted(self, program, data):
@@ -67,12 +68,12 @@ class Variant(InFolder):
         for seed in range(DOCUMENTS):
             document = Sections(seed).document()
             wanted = self.converted(XML2PYX, document)
-            self.assert_same(self.converted(self.folder / "variant/xml2pyx", document), wanted, seed)
+            self.assert_same(self.converted(self.program, document), wanted, seed)
             good += wanted[-1] == 0
         self.assertGreater(good, DOCUMENTS // 5)
         for seed in range(DOCUMENTS):
             document = nesting_test.System(seed).document(0)
-            self.assertEqual(self.converted(self.folder / "variant/xml2pyx", document)[0], self.converted(XML2PYX, document)[0], seed)
+            self.assertEqual(self.converted(self.program, document)[0], self.converted(XML2PYX, document)[0], seed)
 
 
 class Long(InFolder):
