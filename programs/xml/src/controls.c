@@ -57,19 +57,52 @@ static void open_markup(struct control_scan *scan, uint64_t offset, struct span 
     }
 }
 
+/* Begins a mark of so many bytes, for this code. */
+static void begin_mark(struct control_scan *scan, uint64_t offset, size_t length, long code) {
+    scan->has_marks = true;
+    scan->letter = (char)(code ^ LETTER_BIT);
+    scan->begin = offset;
+    scan->behind = offset + length;
+}
+
 /* Begins a mark if there is a reference. */
 static void open_mark(struct control_scan *scan, uint64_t offset, struct span rest) {
     long code = 0;
     size_t end = read_code(rest, &code);
     bool is_known = end > 0 && end < rest.length && end < LONGEST_CONTROL && rest.data[end] == ';';
     if (is_known && (is_control(code) || code == DELETE)) {
-        scan->has_marks = true;
-        scan->letter = (char)(code ^ LETTER_BIT);
-        scan->begin = offset;
-        scan->behind = offset + end + 1;
-    } else if (end == LONGEST_CONTROL && code <= DELETE && !scan->has_long) {
-        scan->has_long = true;
-        scan->long_at = offset;
+        begin_mark(scan, offset, end + 1, code);
+        scan->delete = NULL;
+    } else if (end == LONGEST_CONTROL && code <= DELETE) {
+        scan->is_long = true;
+        scan->base = rest.data[2] == 'x' ? 16 : 10;
+        scan->digits = offset + (scan->base == 16 ? strlen("&#x") : strlen("&#"));
+        scan->begin = scan->behind = scan->digits;
+    }
+}
+
+/* Whether libxml2 takes a letter as this digit of a reference: 2.9 takes none as the digits 10, 21, 32, .., counted from 0. */
+static bool takes_letter(uint64_t digit) {
+    return digit % 11 != 10;
+}
+
+/* Goes on over a zero of a long reference. It may be the first of the last digits, which the mark needs. Where libxml2 does not take the `F` of these, it needs
+ * one more. */
+static void look_at_zero(struct control_scan *scan, uint64_t offset, struct span rest) {
+    bool is_hexadecimal = scan->base == 16;
+    const char *delete = is_hexadecimal ? "7F;" : "127;";
+    size_t needed = strlen(delete) + 1;
+    size_t most = needed + (is_hexadecimal && !takes_letter(offset + 2 - scan->digits));
+    size_t end = 0;
+    long code = 0;
+    while (end < rest.length && end < most && digit_of(rest.data[end], scan->base) >= 0) {
+        code = scan->base * code + digit_of(rest.data[end], scan->base);
+        end++;
+    }
+    if (end >= needed && end < rest.length && rest.data[end] == ';' && (is_control(code) || code == DELETE)) {
+        begin_mark(scan, offset, end + 1, code);
+        scan->delete = delete;
+        scan->is_long = false;
     }
 }
 
@@ -78,12 +111,15 @@ static const char *end_of(const struct control_scan *scan) {
     return scan->kind == '-' ? "-->" : scan->kind == '?' ? "?>" : "]]>";
 }
 
-/* Goes on over a byte that has to be looked at. */
+/* Goes on over a byte that may have to be looked at. */
 static void look(struct control_scan *scan, uint64_t offset, struct span rest) {
     char byte = rest.data[0];
     bool is_quote = byte == '"' || byte == '\'';
     bool is_in_literal = scan->kind == '"' || scan->kind == '\'';
-    if (scan->kind != '\0' && !is_in_literal) {
+    scan->is_long = scan->is_long && byte == '0';
+    if (scan->is_long) {
+        look_at_zero(scan, offset, rest);
+    } else if (scan->kind != '\0' && !is_in_literal) {
         scan->kind = begins(rest, end_of(scan)) ? '\0' : scan->kind;
     } else if (byte == '&') {
         open_mark(scan, offset, rest);
@@ -103,24 +139,26 @@ static bool is_seen(char byte) {
 
 /* The byte of the last mark at the offset. */
 static char mark_byte(const struct control_scan *scan, uint64_t offset) {
-    bool is_end = offset == scan->begin || offset + 1 == scan->behind;
-    return is_end ? DELETE : offset == scan->begin + 1 ? scan->letter : 'x';
+    static const char plain[] = {DELETE, '\0'};
+    const char *delete = scan->delete == NULL ? plain : scan->delete;
+    size_t length = strlen(delete);
+    size_t at = (size_t)(offset - scan->begin);
+    return at < length ? delete[at] : at == length ? scan->letter : offset + 1 == scan->behind ? DELETE : 'x';
 }
 
 void mark_controls(struct control_scan *scan, uint64_t offset, struct span text, char *to, size_t count) {
     for (size_t at = 0; at < count; at++) {
         uint64_t here = offset + at;
-        if (here >= scan->behind && is_seen(text.data[at])) {
+        if (here >= scan->behind && (scan->is_long || is_seen(text.data[at]))) {
             look(scan, here, (struct span){text.data + at, text.length - at});
         }
         to[at] = here >= scan->begin && here < scan->behind ? mark_byte(scan, here) : text.data[at];
     }
 }
 
-bool mark_controls_in(char *text, size_t length, bool is_content, bool *has_long) {
+bool mark_controls_in(char *text, size_t length, bool is_content) {
     struct control_scan scan = {.is_content = is_content};
     mark_controls(&scan, 0, (struct span){text, length}, text, length);
-    *has_long = scan.has_long;
     return scan.has_marks;
 }
 

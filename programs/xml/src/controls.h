@@ -2,7 +2,9 @@
  *
  * libxml2 gets a mark in the place of such a reference, which is as long. A mark begins and ends with a delete, U+007F, and has the letter of the character
  * between them, as in `^A`. Like a control character it is no blank, no markup, and in no name. XML 1.1 has a delete by a reference alone, and such a reference
- * becomes a mark too. So what has a delete has a mark. */
+ * becomes a mark too. So what has a delete has a mark.
+ *
+ * The mark of a reference with many zeros begins with a delete by a reference, which has them. So no value gets long by a mark. */
 #ifndef CONTROLS_H
 #define CONTROLS_H
 
@@ -10,7 +12,7 @@
 
 #include <stdint.h>
 
-enum { LONGEST_CONTROL = 64 /* bytes of a reference that is found; it may have zeros before its digits */ };
+enum { LONGEST_CONTROL = 64 /* bytes of a reference that is found at its begin. Of a longer one the zeros are passed, and then its last digits are found */ };
 
 /* The control characters before, between and behind tab, line feed and carriage return. A schema has none of them, and is XML 1.0, so no range in a `pattern`
  * of it has one character of a class without the others. */
@@ -26,10 +28,12 @@ struct control_scan {
     char kind;       /* what is being read: the quote of a literal of a DTD, `-` of a comment, `?` of an instruction, `[` of a section; 0: none of these */
     bool is_content; /* this is the root or something behind it, or the text of an entity for content: no literals, but CDATA sections */
     bool has_marks;  /* a reference was found */
-    bool has_long;   /* so was one that is too long to know what it refers to: the document is refused, since what has a delete has to have a mark */
-    uint64_t long_at; /* where the first of these is */
+    bool is_long;    /* the zeros of a long one are being read, .. */
+    int base;        /* .. which has digits of this base, .. */
+    uint64_t digits; /* .. from this offset on */
+    const char *delete; /* the end of a reference to a delete, which begins the mark of a long one; NULL: that of the last one begins with a delete */
     char letter;     /* of the last one */
-    uint64_t begin;  /* where it begins */
+    uint64_t begin;  /* where its mark begins */
     uint64_t behind; /* where it ends, or what begins a comment, an instruction or a section: the bytes before need no look */
 };
 
@@ -42,11 +46,8 @@ bool is_control(long code);
 /* Copies `count` bytes of the text, with marks in the place of references. The text goes on for LONGEST_CONTROL bytes more, unless the document ends. */
 void mark_controls(struct control_scan *scan, uint64_t offset, struct span text, char *to, size_t count);
 
-/* Writes marks into a text of a DTD, or into the text of an entity for content. Returns whether there are any. `has_long` is that of the scan. */
-bool mark_controls_in(char *text, size_t length, bool is_content, bool *has_long);
-
-/* Why a document is refused that has a reference which is too long. */
-static const char long_reference[] = "a reference to a character of 64 bytes or more, in XML 1.1: outside the profile";
+/* Writes marks into a text of a DTD, or into the text of an entity for content. Returns whether there are any. */
+bool mark_controls_in(char *text, size_t length, bool is_content);
 
 /* Whether a text has a mark, or a part of one. */
 bool has_control_marks(struct span text);

@@ -182,12 +182,8 @@ static void check_text(struct declarations *declarations, struct span text, bool
 /* Marks the references to control characters in the text of an entity. */
 static void mark(struct declarations *declarations, char *text, size_t length, bool is_parameter) {
     struct feed *feed = declarations->feed;
-    bool has_long = false;
-    if (feed->decoding.is_1_1 && mark_controls_in(text, length, !is_parameter, &has_long)) {
+    if (feed->decoding.is_1_1 && mark_controls_in(text, length, !is_parameter)) {
         feed_has_marks(feed);
-    }
-    if (has_long) {
-        declarations_refuse(declarations, long_reference);
     }
 }
 

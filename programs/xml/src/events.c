@@ -37,6 +37,7 @@ struct reader {
     struct bytes values; /* those of its attributes that have other characters in the place of marks */
     struct bytes piece;  /* of a text that has them */
     enum mark_part part; /* what was read of a mark in it */
+    uint64_t mark_at;    /* where the reference of the mark begins in the document, of which the last piece had the first byte */
     struct event_declaration *declared; /* room for its declarations */
     size_t declared_capacity;
     bool has_bad_name;   /* the tag that is being read has a name that is no QName */
@@ -198,6 +199,28 @@ static OUT_OF_LINE void take_any_text(struct reader *reader, const xmlChar *text
     }
 }
 
+/* Finds the position of a piece of which a part is a mark, or of one. */
+static struct position marked_position(struct reader *reader, const xmlChar *text, size_t length) {
+    bool has_raw = is_raw(reader, text);
+    struct position position = has_raw ? raw_position(reader, text, length) : other_position(reader, length);
+    uint64_t last = position.at + length - 1;
+    if (has_raw && reader->part == MARK_BEGUN) {
+        position.at = reader->mark_at;
+    }
+    reader->mark_at = last;
+    return position;
+}
+
+/* Whether the piece is a delete by a reference, which begins a mark. Then the text stays where the reference begins. */
+static bool begins_mark(struct reader *reader, const xmlChar *text, size_t length) {
+    bool is_begin = length == 1 && reader->part == MARK_NONE && !is_raw(reader, text);
+    if (is_begin) {
+        reader->part = MARK_BEGUN;
+        reader->mark_at = feed_settle(&reader->feed, feed_offset(&reader->feed));
+    }
+    return is_begin;
+}
+
 /* Takes a piece of text in a document with marks for control characters. libxml2 may end a piece in a mark. */
 static void take_marked_text(void *context, const xmlChar *text, int size) {
     struct reader *reader = context;
@@ -209,10 +232,10 @@ static void take_marked_text(void *context, const xmlChar *text, int size) {
         take_any_text(reader, text, span.length);
         return;
     }
-    bool has_raw = is_raw(reader, text);
-    bool is_begun = has_raw && reader->part == MARK_BEGUN;
-    struct position position = has_raw ? raw_position(reader, text, span.length) : other_position(reader, span.length);
-    position.at -= is_begun; /* the reference begins there */
+    if (begins_mark(reader, text, span.length)) {
+        return;
+    }
+    struct position position = marked_position(reader, text, span.length);
     bytes_clear(&reader->piece);
     bytes_add(&reader->piece, span.data, span.length);
     if (reader->piece.failed) {

@@ -512,9 +512,6 @@ static void write_bytes(struct feed *feed, char *bytes, size_t count) {
         fault_set(feed->fault, FAULT_MEMORY, (struct place){0, 0}, "out of memory");
     }
     feed->given += count;
-    if (feed->controls.has_long) {
-        fault_set(feed->fault, FAULT_OUTSIDE, feed_place(feed, feed->controls.long_at), "%s", long_reference);
-    }
     if (feed->controls.has_marks && !had_marks) {
         feed->marked(feed->context);
     }

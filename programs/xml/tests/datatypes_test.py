@@ -368,6 +368,41 @@ class Controls(InFolder):
             place = int(name[1:-4]) + 22 + 3
             self.assertEqual(self.run_in(RNCV_XML, "l.rnc", name)[0], f'{name}:1:{place}: invalid: the text of <a> is wrong ("\\x01é"); expected "x"\n')
 
+    def many(self, schema, documents):
+        """The lines about documents of XML 1.1, without their names."""
+        names = [self.write(f"z{number}.xml", f'<?xml version="1.1"?>{text}').name for number, text in enumerate(documents)]
+        lines = self.judge("--all", schema, *names)[0].splitlines()
+        self.assertEqual([line.split(":")[0] for line in lines], names)
+        return [line.partition(":")[2] for line in lines]
+
+    def test_zeros(self):
+        """A reference may have any number of them: in a text, a value, and a text of a DTD."""
+        self.write("t.rnc", 'element a { element b { "x" }* }')
+        self.write("v.rnc", "element a { attribute x { xsd:integer } }")
+        self.write("d.rnc", 'element a { xsd:string { pattern = "x.y(.y){3}" }, attribute x { xsd:string { length = "1" } } }')
+        forms = (("#x{}1", "01"), ("#x{}7f", "7f"), ("#x{}1F", "1f"), ("#{}127", "7f"), ("#{}31", "1f"), ("#{}2", "02"))
+        for zeros in (*range(54, 86), 4_080, 65_500):
+            references = [f"&{digits.format('0' * zeros)};" for digits, _ in forms]
+            subsets = [f"<!ENTITY e '{it}y'><!ENTITY f '&#38;{it[1:]}y'><!ENTITY % p '<!ENTITY g \"&e;\">'><!ATTLIST a x CDATA '{it}'>%p;" for it in references]
+            with self.subTest(zeros=zeros):
+                self.assertEqual(self.many("t.rnc", [f"<a>\n<b>x</b><b>\n{it}0</b></a>" for it in references]),
+                                 [f'3:1: invalid: the text of <b> is wrong ("\\x{shown}0"); expected "x"' for _, shown in forms])
+                self.assertEqual(self.many("v.rnc", [f'<a\nx="1{it}0"/>' for it in references]),
+                                 [f'1:22: invalid: attribute x of <a> is no xsd:integer ("1\\x{shown}0")' for _, shown in forms])
+                self.assertEqual(set(self.many("d.rnc", [f"<!DOCTYPE a [{subset}]><a>x{it}y&e;&f;&g;</a>" for it, subset in zip(references, subsets)])), {" valid"})
+
+    def test_zeros_of_others(self):
+        """What is no such reference stays what it is."""
+        self.write("t.rnc", 'element a { "x" }')
+        for zeros in range(55, 75):
+            noughts = "0" * zeros
+            others = ((f"#x{noughts}41", "A"), (f"#{noughts}65", "A"), (f"#x{noughts}9", "\\t"), (f"#x{noughts}80", "\\x80"), (f"#{noughts}1114111", "\U0010ffff"))
+            self.assertEqual(self.many("t.rnc", [f"<a>-&{digits};0</a>" for digits, _ in others]),
+                             [f'1:25: invalid: the text of <a> is wrong ("-{shown}0"); expected "x"' for _, shown in others])
+            for line in self.many("t.rnc", [f"<a>&{it.format(noughts)};</a>" for it in ("#x{}", "#{}1 ", "#{}<b/>1", "#x{}g", "#{}1f", "#{}0", "#x{}101000000001")]):
+                self.assertIn("malformed XML", line)
+            self.assertIn(f'("&#{noughts[:38]}', self.many("t.rnc", [f"<a><!--&#{noughts}1;-->\n<![CDATA[&#{noughts}1;]]></a>"])[0])
+
 
 if __name__ == "__main__":
     unittest.main(verbosity=1)
