@@ -49,10 +49,10 @@ link_program() {
 shared="$parser_parts program"
 rng="rng_tree rng_namespaces rng_grammar rng_uri rng_prefixes rng_words rng_patterns rng_writer"
 hints="schema_asked schema_types schema_tree schema_grammars schema_words schema_restrictions schema_hints schema_datatypes"
-telling="finding expected scope declared near lists list_fault telling alone_schema contexts alone second_reading"
+telling="finding expected scope declared near lists list_fault telling alone_schema contexts alone second_reading judge_forms"
 merging="schema_walk schema_merging schema_merged_text"
 reading="paths schema_tokens annotation_names schema_annotations origins $rng catalogs schema_files schema_xml $merging"
-ids="text_table id_form id_types id_check schema_ids named_sets stand_ins schema_controls schema_context"
+ids="text_table id_form id_types id_check schema_ids expressions named_sets stand_ins form_literals schema_controls control_classes control_form schema_context"
 judging="$reading $ids $hints options clause_page documents event_log library_calls judging $telling progress formats source_line report jobs"
 converting="$reading $ids schema_asked event_log library_calls judging $telling"
 

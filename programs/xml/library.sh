@@ -17,10 +17,10 @@ flags="-std=c17 -Wall -Wextra -Wconversion -Werror -pedantic -D_XOPEN_SOURCE=700
 . "$here/parser.sh"
 rng="rng_tree rng_namespaces rng_grammar rng_uri rng_prefixes rng_words rng_patterns rng_writer"
 hints="schema_asked schema_types schema_tree schema_grammars schema_words schema_restrictions schema_hints schema_datatypes"
-telling="finding expected scope declared near lists list_fault telling alone_schema contexts alone second_reading"
+telling="finding expected scope declared near lists list_fault telling alone_schema contexts alone second_reading judge_forms"
 merging="schema_walk schema_merging schema_merged_text"
 schemas="schema_tokens annotation_names schema_annotations origins $rng catalogs $hints schema_files schema_xml $merging"
-ids="text_table id_form id_types id_check schema_ids named_sets stand_ins schema_controls"
+ids="text_table id_form id_types id_check schema_ids expressions named_sets stand_ins form_literals schema_controls control_classes control_form"
 parts="$parser_parts program paths $schemas $ids event_log library_calls judging $telling library"
 
 missing() { echo "programs/xml/library.sh: $1" >&2; exit 2; }

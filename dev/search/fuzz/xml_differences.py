@@ -12,7 +12,7 @@ OUTSIDE = (
     ("encodings", r"the encoding '.*' is not served"),
     ("tables", r"in different ways"),
     ("limits", r"more than [0-9,]+|over a limit|too many|amplification|malformed P10"),
-    ("version-1.1", r"\b1\.1\b|that may be about it"),
+    ("version-1.1", r"\b1\.1\b"),
     ("references", r"refers to a tab"),
     ("fragments", r"with a fragment"),
     ("identifiers", r"is no URI"),

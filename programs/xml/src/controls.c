@@ -250,18 +250,43 @@ bool have_stand_ins(const struct stand_ins *stand_ins, struct span text) {
     return have_all;
 }
 
+/* What stands in for the character at the start of the text, which has so many bytes; NULL: nothing does. */
+static const char *replacement(const struct stand_ins *stand_ins, struct span text, size_t *size) {
+    const char *found = stand_in_of(stand_ins, *text.data);
+    *size = 1;
+    if (found != NULL || stand_ins->instead[0] == '\0') {
+        return found;
+    }
+    for (unsigned class = 0; class < CONTROL_CLASSES && found == NULL; class++) {
+        found = begins(text, stand_ins->texts[class]) ? stand_ins->instead : NULL;
+    }
+    *size = found == NULL ? 1 : strlen(found);
+    return found;
+}
+
+bool has_replaced(const struct stand_ins *stand_ins, struct span text) {
+    size_t size = 1;
+    bool is_found = false;
+    for (size_t at = 0; at < text.length && !is_found; at++) {
+        is_found = replacement(stand_ins, (struct span){text.data + at, text.length - at}, &size) != NULL;
+    }
+    return is_found;
+}
+
 size_t length_with(const struct stand_ins *stand_ins, struct span text) {
+    size_t size = 1;
     size_t length = 0;
-    for (size_t at = 0; at < text.length; at++) {
-        const char *found = stand_in_of(stand_ins, text.data[at]);
+    for (size_t at = 0; at < text.length; at += size) {
+        const char *found = replacement(stand_ins, (struct span){text.data + at, text.length - at}, &size);
         length += found == NULL ? 1 : strlen(found);
     }
     return length;
 }
 
 void add_with(const struct stand_ins *stand_ins, struct span text, struct bytes *to) {
-    for (size_t at = 0; at < text.length; at++) {
-        const char *found = stand_in_of(stand_ins, text.data[at]);
+    size_t size = 1;
+    for (size_t at = 0; at < text.length; at += size) {
+        const char *found = replacement(stand_ins, (struct span){text.data + at, text.length - at}, &size);
         bytes_add(to, found == NULL ? text.data + at : found, found == NULL ? 1 : strlen(found));
     }
 }

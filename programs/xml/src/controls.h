@@ -21,6 +21,7 @@ enum control_class { CONTROLS_BEFORE, CONTROLS_BETWEEN, CONTROLS_BEHIND, CONTROL
 /* What the library gets for each character of a class, since its texts are those of XML 1.0: a character in UTF-8, or nothing. */
 struct stand_ins {
     char texts[CONTROL_CLASSES][5];
+    char instead[5]; /* of one of these that a document has itself; empty: the schema does not tell it from the control characters */
 };
 
 /* A search for references in a text, and how far it was handed to libxml2. Set it to zero before the first byte of a document or of a text of its DTD. */
@@ -65,6 +66,9 @@ bool has_controls(struct span text);
 
 /* Whether each control character of the text has a character that stands in for it. */
 bool have_stand_ins(const struct stand_ins *stand_ins, struct span text);
+
+/* Whether the text has characters that others stand in for. */
+bool has_replaced(const struct stand_ins *stand_ins, struct span text);
 
 /* The length of the text with these in the place of its control characters. */
 size_t length_with(const struct stand_ins *stand_ins, struct span text);

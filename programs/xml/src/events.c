@@ -906,6 +906,9 @@ static void take_document(void *context) {
     struct reader *reader = context;
     xmlSAX2StartDocument(reader->feed.parser);
     move_on(reader);
+    if (reader->feed.decoding.is_1_1 && reader->sink.version != NULL) {
+        reader->sink.version(reader->sink.context);
+    }
 }
 
 static void take_subset(void *context, const xmlChar *name, const xmlChar *public, const xmlChar *system) {

@@ -61,6 +61,7 @@ struct event_sink {
     void (*flush)(void *context); /* comes before more of the document is read, which may take long; NULL: not wanted */
     void (*keep)(void *context);  /* comes before names, raw texts and places of earlier events vanish, also after a fault; NULL: not wanted */
     size_t (*held)(const void *context); /* how many bytes it keeps of the document; NULL: none that grow with it */
+    void (*version)(void *context); /* comes before the events of a document of XML 1.1; NULL: not wanted */
     /* Comes before each text and value with a control character of XML 1.1. Returns why the document is refused; NULL: it is not. NULL: each is. */
     const char *(*control)(void *context, struct span text);
     /* Comes before the first of them, or U+007F by a reference, anywhere in the document. Returns the end for namespaces with control characters

@@ -20,6 +20,15 @@ static struct span replaced(struct call_room *room, struct span text) {
     return (struct span){values->data + begin, values->length - begin};
 }
 
+/* Makes room for values of this length, and forgets those that are there. False: out of memory. */
+static bool renew_values(struct call_room *room, size_t length) {
+    if (room->values.failed) { /* what could not grow would stay so */
+        bytes_free(&room->values);
+    }
+    bytes_clear(&room->values);
+    return bytes_reserve(&room->values, length);
+}
+
 bool call_room_replace(struct call_room *room, size_t count) {
     size_t length = 0;
     if (count == 0) {
@@ -28,13 +37,12 @@ bool call_room_replace(struct call_room *room, size_t count) {
     for (size_t at = 0; at < count; at++) {
         length += length_with(room->stand_ins, (struct span){(const char *)room->attributes[at].value, room->attributes[at].value_length});
     }
-    bytes_clear(&room->values);
-    if (!bytes_reserve(&room->values, length)) {
+    if (!renew_values(room, length)) {
         return false;
     }
     for (rncv_attribute *at = room->attributes; at < room->attributes + count; at++) {
         struct span value = {(const char *)at->value, at->value_length};
-        value = has_controls(value) ? replaced(room, value) : value;
+        value = has_replaced(room->stand_ins, value) ? replaced(room, value) : value;
         at->value = bytes_of_span(value);
         at->value_length = value.length;
     }
@@ -42,11 +50,10 @@ bool call_room_replace(struct call_room *room, size_t count) {
 }
 
 bool call_room_text(struct call_room *room, struct span *text) {
-    if (room->stand_ins == NULL || !has_controls(*text)) {
+    if (room->stand_ins == NULL || !has_replaced(room->stand_ins, *text)) {
         return true;
     }
-    bytes_clear(&room->values);
-    if (!bytes_reserve(&room->values, length_with(room->stand_ins, *text))) {
+    if (!renew_values(room, length_with(room->stand_ins, *text))) {
         return false;
     }
     *text = replaced(room, *text);

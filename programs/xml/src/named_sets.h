@@ -1,9 +1,9 @@
-/* Which characters a schema names for its texts: by themselves, and by the ranges, categories and blocks in the expressions of its `pattern`s (XML Schema
- * Part 2, appendix F). */
+/* Which characters a schema names for its texts: by themselves, and by the ranges, categories and blocks in the expressions of its `pattern`s. */
 #ifndef NAMED_SETS_H
 #define NAMED_SETS_H
 
 #include "controls.h"
+#include "expressions.h"
 
 struct code_range {
     uint32_t first;
@@ -43,8 +43,5 @@ void name_expression(struct named_sets *sets, struct span text);
 
 /* Sorts the ranges by their first characters. */
 void named_sets_sort(struct named_sets *sets);
-
-/* The bits of the categories whose names begin so; 0: there is none. */
-uint32_t categories_of(struct span name);
 
 #endif

@@ -1,22 +1,7 @@
 #include "schema_asked.h"
 
 #include "rncv.h"
-
-/* Adds a text as a literal of the compact syntax. Escapes are replaced before a literal ends at its quote, so a quote is in other quotes. */
-static void add_literal(struct bytes *to, struct span text) {
-    bytes_add_byte(to, '"');
-    for (size_t at = 0; at < text.length; at++) {
-        unsigned char byte = (unsigned char)text.data[at];
-        if (byte == '"') {
-            bytes_add_text(to, "\" ~ '\"' ~ \"");
-        } else if (byte < ' ' || byte == '\\') {
-            bytes_format(to, "\\x{%X}", byte);
-        } else {
-            bytes_add_byte(to, text.data[at]);
-        }
-    }
-    bytes_add_byte(to, '"');
-}
+#include "schema_tokens.h"
 
 /* Asks the library about the only datatype of a schema. The text is freed. */
 static bool is_taken(struct bytes *schema, uint32_t datatypes) {
@@ -33,7 +18,7 @@ void asked_begin(struct bytes *question, const char *type) {
 void asked_add_param(struct bytes *question, struct span name, struct span text) {
     bytes_add(question, name.data, name.length);
     bytes_add_byte(question, '=');
-    add_literal(question, text);
+    write_literal(question, text);
 }
 
 bool asked_is_taken(struct bytes *question, uint32_t datatypes) {
@@ -69,6 +54,6 @@ bool asked_takes(struct bytes *question, struct span text, uint32_t datatypes) {
 bool asked_allows(const char *type, struct span value, uint32_t datatypes) {
     struct bytes schema = NO_BYTES;
     bytes_format(&schema, "xsd:%s ", type);
-    add_literal(&schema, value);
+    write_literal(&schema, value);
     return is_taken(&schema, datatypes);
 }

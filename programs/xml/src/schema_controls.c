@@ -1,7 +1,7 @@
 #include "schema_controls.h"
 
+#include "form_literals.h"
 #include "schema_ids.h"
-#include "schema_tokens.h"
 #include "stand_ins.h"
 #include "xml_names.h"
 
@@ -14,32 +14,6 @@ struct found {
     struct named_sets texts;  /* of its values and patterns */
     struct named_sets spaces; /* the characters behind deletes in its namespaces */
 };
-
-/* Takes a literal off the tokens, with the parts that are joined to it. `token` becomes the one behind it. */
-static void take_literal(struct tokens *tokens, struct token *token, struct bytes *literal) {
-    bytes_clear(literal);
-    while (token->kind == TOKEN_LITERAL) {
-        add_literal(literal, token);
-        *token = tokens_next(tokens);
-        if (!is_sign(token, '~')) {
-            return;
-        }
-        *token = tokens_next(tokens);
-    }
-}
-
-/* What the last tokens are: a parameter `pattern` up to its value, or the declaration of a prefix up to its namespace. */
-enum before { BEFORE_OTHERS, BEFORE_PATTERN, BEFORE_EXPRESSION, BEFORE_NAMESPACE, BEFORE_PREFIX, BEFORE_URI };
-
-static enum before behind(enum before before, const struct token *token) {
-    if (before == BEFORE_NAMESPACE) {
-        return BEFORE_PREFIX;
-    }
-    if (is_sign(token, '=')) {
-        return before == BEFORE_PATTERN ? BEFORE_EXPRESSION : before == BEFORE_PREFIX ? BEFORE_URI : BEFORE_OTHERS;
-    }
-    return is_word(token, "pattern") ? BEFORE_PATTERN : is_word(token, "namespace") ? BEFORE_NAMESPACE : BEFORE_OTHERS;
-}
 
 /* Takes the characters behind deletes. */
 static void take_namespace(struct named_sets *sets, struct span text) {
@@ -55,46 +29,36 @@ static void take_namespace(struct named_sets *sets, struct span text) {
     }
 }
 
-static void take(struct found *found, const struct bytes *literal, enum before before) {
-    struct span text = {literal->data, literal->length};
-    if (before == BEFORE_URI) {
+static void take(struct found *found, const struct form_literals *literals) {
+    struct span text = {literals->text.data, literals->text.length};
+    if (literals->kind == LITERAL_NAMESPACE) {
         take_namespace(&found->spaces, text);
-    } else if (before == BEFORE_EXPRESSION) {
+    } else if (literals->kind == LITERAL_EXPRESSION) {
         name_expression(&found->texts, text);
     } else {
         name_characters(&found->texts, text);
     }
 }
 
-/* Looks at each literal of so many bytes. False: out of memory. */
-static bool search(struct tokens *tokens, size_t length, struct found *found) {
-    struct bytes literal = NO_BYTES;
-    enum before before = BEFORE_OTHERS;
-    struct token token = tokens_next(tokens);
-    while (token.kind != TOKEN_NONE && !literal.failed) {
-        if (token.kind == TOKEN_LITERAL) {
-            take_literal(tokens, &token, &literal);
-            take(found, &literal, before);
-            before = BEFORE_OTHERS;
-        } else {
-            before = behind(before, &token);
-            token = tokens_next(tokens);
-        }
+/* Looks at each literal of the form. False: out of memory. */
+static bool search(struct span form, struct found *found) {
+    struct form_literals literals;
+    form_literals_open(&literals, form);
+    while (form_literals_next(&literals)) {
+        take(found, &literals);
     }
-    bool is_good = !literal.failed && !found->texts.failed && !found->spaces.failed;
-    bool is_strange = token.at < length; /* nothing is a token there */
+    bool is_strange = !form_literals_end(&literals);
     found->texts.is_strange |= is_strange;
     found->spaces.is_strange |= is_strange;
-    bytes_free(&literal);
-    return is_good;
+    form_literals_close(&literals);
+    return !literals.failed && !found->texts.failed && !found->spaces.failed;
 }
 
 /* Chooses the end of namespaces with control characters. */
 static void choose_spelling(const struct named_sets *sets, char spelling[5]) {
-    static const struct code_range ranges[] = {{0xE000, 0xF8FF}, {0xF0000, 0xFFFFD}, {0x100000, 0x10FFFD}}; /* for private use: they are XML 1.0 */
     uint32_t code = 0;
-    for (size_t at = 0; at < sizeof ranges / sizeof *ranges && code == 0 && !sets->is_strange; at++) {
-        code = first_unnamed(sets, CONTROL_CLASSES, ranges[at]);
+    for (size_t at = 0; at < PRIVATE_RANGES && code == 0 && !sets->is_strange; at++) {
+        code = first_unnamed(sets, CONTROL_CLASSES, private_ranges[at]);
     }
     if (code != 0) {
         utf_8_of(code, spelling);
@@ -105,25 +69,25 @@ static void choose(struct found *found, struct schema_controls *controls) {
     named_sets_sort(&found->texts);
     named_sets_sort(&found->spaces);
     stand_ins_choose(&found->texts, &controls->stand_ins);
+    controls->first_alike = found->texts.is_strange ? 0 : first_alike(&found->texts, CONTROL_CLASSES + 1);
     choose_spelling(&found->spaces, controls->spelling);
 }
 
 bool schema_controls_read(rncv_schema *schema, struct schema_controls *controls) {
-    struct tokens tokens;
     struct found found;
     uint8_t *form = NULL;
     size_t length = 0;
     memset(controls, 0, sizeof *controls);
     if (schema_form(schema, &form, &length) != RNCV_DONE) {
+        free(form);
         return false;
     }
     named_sets_open(&found.texts);
     named_sets_open(&found.spaces);
-    controls->is_known = tokens_open(&tokens, (const char *)form, length) && search(&tokens, length, &found);
+    controls->is_known = search((struct span){(const char *)form, length}, &found);
     if (controls->is_known) {
         choose(&found, controls);
     }
-    tokens_close(&tokens);
     named_sets_close(&found.texts);
     named_sets_close(&found.spaces);
     free(form);

@@ -305,6 +305,21 @@ void add_literal(struct bytes *text, const struct token *token) {
     }
 }
 
+void write_literal(struct bytes *to, struct span text) {
+    bytes_add_byte(to, '"');
+    for (size_t at = 0; at < text.length; at++) {
+        unsigned char byte = (unsigned char)text.data[at];
+        if (byte == '"') {
+            bytes_add_text(to, "\" ~ '\"' ~ \"");
+        } else if (byte < ' ' || byte == '\\') {
+            bytes_format(to, "\\x{%X}", byte);
+        } else {
+            bytes_add_byte(to, text.data[at]);
+        }
+    }
+    bytes_add_byte(to, '"');
+}
+
 bool is_word(const struct token *token, const char *word) {
     return token->kind == TOKEN_WORD && token->text.length == strlen(word) && memcmp(token->text.data, word, token->text.length) == 0;
 }

@@ -51,6 +51,10 @@ void tokens_close(struct tokens *tokens);
 
 /* Adds the value of a literal to `text`. */
 void add_literal(struct bytes *text, const struct token *token);
+
+/* Writes a text as a literal of the compact syntax. Escapes are replaced before a literal ends at its quote, so a quote is in other quotes. */
+void write_literal(struct bytes *to, struct span text);
+
 bool is_word(const struct token *token, const char *word);
 bool is_sign(const struct token *token, char sign);
 bool has_colon(const struct token *token);

@@ -2,6 +2,7 @@
 
 #include "alone.h"
 #include "contexts.h"
+#include "judge_forms.h"
 #include "text_table.h"
 
 #include <stdlib.h>
@@ -15,6 +16,7 @@ enum {
 struct second {
     struct judge whole;   /* judges an element with its attributes */
     struct judge content; /* judges it without, once that is wanted */
+    struct alone_schemas *alone; /* their schemas */
     struct contexts contexts; /* of the schema */
     uint32_t members[MOST_MEMBERS]; /* what the element may be of which something is told */
     struct element *elements; /* the room for those that are open */
@@ -40,12 +42,20 @@ struct second_pass {
     size_t held;                /* the bytes of the open elements but the innermost */
     struct hint *hints;         /* in the order of their places */
     size_t count, most;
-    const struct schema_controls *controls; /* of the schema */
+    const struct judge *judge; /* which has found the first fault */
     size_t told; /* how many were told, also of those that are not kept */
     uint32_t capacity;
 };
 
 /* ---- the judges */
+
+/* Begins one of the judges. It has no schema yet. */
+static void open_judge(struct judge *own, struct second *second, const struct judge *judge) {
+    own->shared = judge->shared;
+    own->form = &second->whole.declared;
+    own->controlled = judge->controlled;
+    own->is_controlled = judge->is_controlled;
+}
 
 /* Makes the judges, by the attributes of the schema itself. Where that fails they are not there. */
 static struct second *new_second(struct judge *judge) {
@@ -53,12 +63,11 @@ static struct second *new_second(struct judge *judge) {
     if (second == NULL) {
         return NULL;
     }
-    second->whole.shared = judge->shared;
-    second->content.shared = judge->shared;
-    second->whole.form = &second->whole.declared;
-    second->content.form = &second->whole.declared;
+    open_judge(&second->whole, second, judge);
+    open_judge(&second->content, second, judge);
+    second->alone = judge_alone(judge);
     second->is_there = declared_open(&second->whole.declared, &judge->schema) &&
-                       alone_schemas_share(judge->shared->alone, &second->whole.declared, true, &second->whole.schema) &&
+                       alone_schemas_share(second->alone, &second->whole.declared, true, &second->whole.schema) &&
                        contexts_open(&second->contexts, &second->whole.declared);
     return second;
 }
@@ -67,7 +76,7 @@ static struct second *new_second(struct judge *judge) {
 static bool has_content(struct second *second) {
     if (!second->wants_content) {
         second->wants_content = true;
-        second->has_content = alone_schemas_share(second->whole.shared->alone, &second->whole.declared, false, &second->content.schema);
+        second->has_content = alone_schemas_share(second->alone, &second->whole.declared, false, &second->content.schema);
     }
     return second->has_content;
 }
@@ -337,19 +346,25 @@ static size_t held(const void *context) {
     return pass->held + (pass->depth == 0 ? 0 : element_held(&pass->second->elements[pass->depth - 1]));
 }
 
+/* Sets what stands in for control characters. NULL: the document has none. */
+static void set_stand_ins(struct second *second, const struct stand_ins *stand_ins) {
+    second->whole.room.stand_ins = stand_ins;
+    second->content.room.stand_ins = stand_ins;
+}
+
 /* The first reading has taken them. */
 static const char *take_control(void *context, struct span text) {
     const struct second_pass *pass = context;
     (void)text;
-    pass->second->whole.room.stand_ins = &pass->controls->stand_ins;
-    pass->second->content.room.stand_ins = &pass->controls->stand_ins;
+    set_stand_ins(pass->second, judge_stand_ins(pass->judge));
     return NULL;
 }
 
 /* The first reading has asked the schema. */
 static const char *spelling(void *context) {
     const struct second_pass *pass = context;
-    return pass->controls->spelling[0] == '\0' ? NULL : pass->controls->spelling;
+    const char *text = pass->judge->controls.spelling;
+    return text[0] == '\0' ? NULL : text;
 }
 
 static void read_again(struct second_pass *pass, const struct shared *shared, const struct byte_source *source) {
@@ -395,7 +410,8 @@ void second_reading(struct judge *judge, const struct byte_source *source, uint6
         return;
     }
     struct second_pass pass = {.second = judge->second, .first = answer, .first_number = number, .most = judge->shared->most_faults - 1,
-                               .controls = &judge->controls};
+                               .judge = judge};
+    set_stand_ins(judge->second, judge->room.stand_ins);
     read_again(&pass, judge->shared, source);
     give_hints(&pass, answer);
 }

@@ -1,5 +1,9 @@
 #include "stand_ins.h"
 
+const struct code_range private_ranges[PRIVATE_RANGES] = {{0xE000, 0xF8FF}, {0xF0000, 0xFFFFD}, {0x100000, 0x10FFFD}};
+
+enum { MOST_PRIVATE = 65536 /* characters in one of them */ };
+
 /* Characters of one category and block. */
 struct candidates {
     struct code_range range;
@@ -60,6 +64,41 @@ uint32_t first_unnamed(const struct named_sets *sets, enum control_class class, 
         found = is_named ? sets->ranges[at].last + 1 : found;
     }
     return found <= from.last ? found : 0;
+}
+
+/* Marks the character if it is in the range. */
+static void mark(uint8_t *marks, struct code_range range, uint32_t code) {
+    if (code >= range.first && code <= range.last) {
+        marks[(code - range.first) / 8] |= (uint8_t)(1U << (code - range.first) % 8);
+    }
+}
+
+/* The first of so many characters that have no mark; 0: there are none. */
+static uint32_t first_without(const uint8_t *marks, struct code_range range, uint32_t count) {
+    uint32_t free = 0;
+    uint32_t at = 0;
+    for (; at <= range.last - range.first && free < count; at++) {
+        free = (marks[at / 8] >> at % 8 & 1) != 0 ? 0 : free + 1;
+    }
+    return free == count ? range.first + at - count : 0;
+}
+
+/* The same as first_alike, in this range. */
+static uint32_t first_alike_in(const struct named_sets *sets, struct code_range range, uint32_t count) {
+    uint8_t marks[MOST_PRIVATE / 8] = {0};
+    for (uint32_t at = 0; at < sets->count; at++) {
+        mark(marks, range, sets->ranges[at].first);
+        mark(marks, range, sets->ranges[at].last);
+    }
+    return first_without(marks, range, count);
+}
+
+uint32_t first_alike(const struct named_sets *sets, uint32_t count) {
+    uint32_t found = 0;
+    for (size_t at = 0; at < PRIVATE_RANGES && found == 0; at++) {
+        found = first_alike_in(sets, private_ranges[at], count);
+    }
+    return found;
 }
 
 /* The last character that is in each range which has the class. */
