@@ -32,11 +32,6 @@ static size_t read_code(struct span text, long *code) {
     return at;
 }
 
-static bool begins(struct span text, const char *with) {
-    size_t length = strlen(with);
-    return text.length >= length && memcmp(text.data, with, length) == 0;
-}
-
 /* Begins a comment, an instruction or a section. */
 static void enter(struct control_scan *scan, char kind, uint64_t offset, const char *begin) {
     scan->kind = kind;
@@ -46,13 +41,13 @@ static void enter(struct control_scan *scan, char kind, uint64_t offset, const c
 
 /* Finds out what the `<` begins. */
 static void open_markup(struct control_scan *scan, uint64_t offset, struct span rest) {
-    if (begins(rest, "<!--")) {
+    if (span_begins(rest, "<!--")) {
         enter(scan, '-', offset, "<!--");
-    } else if (begins(rest, "<?")) {
+    } else if (span_begins(rest, "<?")) {
         enter(scan, '?', offset, "<?");
-    } else if (scan->is_content && begins(rest, "<![CDATA[")) {
+    } else if (scan->is_content && span_begins(rest, "<![CDATA[")) {
         enter(scan, '[', offset, "<![CDATA[");
-    } else if (!begins(rest, "<!")) {
+    } else if (!span_begins(rest, "<!")) {
         scan->is_content = true;
     }
 }
@@ -120,7 +115,7 @@ static void look(struct control_scan *scan, uint64_t offset, struct span rest) {
     if (scan->is_long) {
         look_at_zero(scan, offset, rest);
     } else if (scan->kind != '\0' && !is_in_literal) {
-        scan->kind = begins(rest, end_of(scan)) ? '\0' : scan->kind;
+        scan->kind = span_begins(rest, end_of(scan)) ? '\0' : scan->kind;
     } else if (byte == '&') {
         open_mark(scan, offset, rest);
     } else if (is_in_literal) {
@@ -150,7 +145,7 @@ void mark_controls(struct control_scan *scan, uint64_t offset, struct span text,
     for (size_t at = 0; at < count; at++) {
         uint64_t here = offset + at;
         if (here >= scan->behind && (scan->is_long || is_seen(text.data[at]))) {
-            look(scan, here, (struct span){text.data + at, text.length - at});
+            look(scan, here, span_from(text, at));
         }
         to[at] = here >= scan->begin && here < scan->behind ? mark_byte(scan, here) : text.data[at];
     }
@@ -204,7 +199,7 @@ static size_t spell_marks(char *text, size_t length) {
 static bool has_end(struct span text, const char *end) {
     bool is_found = false;
     for (size_t at = 0; at < text.length && !is_found; at++) {
-        is_found = text.data[at] == DELETE && begins((struct span){text.data + at + 1, text.length - at - 1}, end);
+        is_found = text.data[at] == DELETE && span_begins((struct span){text.data + at + 1, text.length - at - 1}, end);
     }
     return is_found;
 }
@@ -258,7 +253,7 @@ static const char *replacement(const struct stand_ins *stand_ins, struct span te
         return found;
     }
     for (unsigned class = 0; class < CONTROL_CLASSES && found == NULL; class++) {
-        found = begins(text, stand_ins->texts[class]) ? stand_ins->instead : NULL;
+        found = span_begins(text, stand_ins->texts[class]) ? stand_ins->instead : NULL;
     }
     *size = found == NULL ? 1 : strlen(found);
     return found;
@@ -268,7 +263,7 @@ bool has_replaced(const struct stand_ins *stand_ins, struct span text) {
     size_t size = 1;
     bool is_found = false;
     for (size_t at = 0; at < text.length && !is_found; at++) {
-        is_found = replacement(stand_ins, (struct span){text.data + at, text.length - at}, &size) != NULL;
+        is_found = replacement(stand_ins, span_from(text, at), &size) != NULL;
     }
     return is_found;
 }
@@ -277,7 +272,7 @@ size_t length_with(const struct stand_ins *stand_ins, struct span text) {
     size_t size = 1;
     size_t length = 0;
     for (size_t at = 0; at < text.length; at += size) {
-        const char *found = replacement(stand_ins, (struct span){text.data + at, text.length - at}, &size);
+        const char *found = replacement(stand_ins, span_from(text, at), &size);
         length += found == NULL ? 1 : strlen(found);
     }
     return length;
@@ -286,7 +281,7 @@ size_t length_with(const struct stand_ins *stand_ins, struct span text) {
 void add_with(const struct stand_ins *stand_ins, struct span text, struct bytes *to) {
     size_t size = 1;
     for (size_t at = 0; at < text.length; at += size) {
-        const char *found = replacement(stand_ins, (struct span){text.data + at, text.length - at}, &size);
+        const char *found = replacement(stand_ins, span_from(text, at), &size);
         bytes_add(to, found == NULL ? text.data + at : found, found == NULL ? 1 : strlen(found));
     }
 }

@@ -92,6 +92,7 @@ bool declarations_are_all(const struct declarations *declarations) {
 void declarations_note(struct declarations *declarations, struct place place, const char *what, const xmlChar *name) {
     struct bytes line = NO_BYTES;
     bytes_format(&line, what, plain(name));
+    shorten_words(&line);
     const char *note = bytes_text(&line);
     if (line.failed) {
         declarations_out_of_memory(declarations);

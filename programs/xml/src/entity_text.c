@@ -37,11 +37,6 @@ struct reference {
     long code;
 };
 
-static bool begins(struct span text, const char *with) {
-    size_t length = strlen(with);
-    return text.length >= length && memcmp(text.data, with, length) == 0;
-}
-
 static int digit_of(char byte, int base) {
     int value = byte >= '0' && byte <= '9' ? byte - '0' : byte >= 'a' && byte <= 'f' ? byte - 'a' + 10 : byte >= 'A' && byte <= 'F' ? byte - 'A' + 10 : base;
     return value < base ? value : -1;
@@ -93,7 +88,7 @@ static char mark_of(struct reference reference) {
 bool has_blank_reference(struct span text) {
     bool is_found = false;
     for (size_t at = 0; at < text.length && !is_found; at++) {
-        is_found = text.data[at] == '&' && mark_of(reference_at((struct span){text.data + at, text.length - at})) != '\0';
+        is_found = text.data[at] == '&' && mark_of(reference_at(span_from(text, at))) != '\0';
     }
     return is_found;
 }
@@ -108,7 +103,7 @@ static const struct section *section_at(struct span text) {
     static const struct section sections[] = {{"<!--", "-->", " "}, {"<?", "?>", "\r"}, {"<![CDATA[", "]]>", "]]>&#13;<![CDATA["}};
     const struct section *found = NULL;
     for (size_t at = 0; at < sizeof sections / sizeof *sections && found == NULL; at++) {
-        found = begins(text, sections[at].begin) ? &sections[at] : NULL;
+        found = span_begins(text, sections[at].begin) ? &sections[at] : NULL;
     }
     return found;
 }
@@ -116,7 +111,7 @@ static const struct section *section_at(struct span text) {
 /* The length of the section at the start of a text. */
 static size_t section_length(struct span text, const struct section *section) {
     size_t at = strlen(section->begin);
-    while (at < text.length && !begins((struct span){text.data + at, text.length - at}, section->end)) {
+    while (at < text.length && !span_begins(span_from(text, at), section->end)) {
         at++;
     }
     return at < text.length ? at + strlen(section->end) : text.length;
@@ -142,7 +137,7 @@ bool entity_text_next(struct span *rest, struct span *name) {
 
 void entity_text_marked(struct span text, struct bytes *to) {
     for (size_t at = 0; at < text.length;) {
-        struct reference reference = reference_at((struct span){text.data + at, text.length - at});
+        struct reference reference = reference_at(span_from(text, at));
         char mark = mark_of(reference);
         bytes_add_byte(to, mark == '\0' ? text.data[at] : mark);
         at += mark == '\0' ? 1 : reference.length;
@@ -347,7 +342,7 @@ void entity_text_declarations(struct span text, struct bytes *to) {
     struct rewriting rewriting = {.now = {text, IN_CONTENT, '\0'}, .to = to};
     while (rewriting.now.rest.length > 0) {
         size_t length = declared_length(rewriting.now.rest);
-        if (begins(rewriting.now.rest, "<?")) {
+        if (span_begins(rewriting.now.rest, "<?")) {
             rewrite_instruction(&rewriting, length);
         } else {
             copy(&rewriting, length);
