@@ -47,6 +47,7 @@ struct reader {
     bool is_unusual;     /* the next tag may be such a one, or elements may declare namespaces by default */
     bool is_empty;       /* the end of the last start tag is in it */
     bool has_marked_uri; /* a namespace had marks */
+    bool has_fragment;   /* the last declaration, or one before, has a system identifier with a fragment */
     uint64_t allowed; /* how many times what a tag usually may cost is allowed: it grows with the square of its attributes */
     size_t unasked;    /* the bytes of texts since the receiver was asked how much it keeps */
     uint64_t searched; /* how many open namespaces were looked at for names */
@@ -895,8 +896,13 @@ static void take_comment(void *context, const xmlChar *text) {
     }
 }
 
-/* What was read is no markup that goes on. */
+/* What was read is no markup that goes on. Makes libxml2 as it was before a fragment. */
 static void move_on(struct reader *reader) {
+    if (reader->has_fragment) {
+        reader->feed.parser->recovery = 0;
+        reader->feed.parser->wellFormed = 1;
+        reader->has_fragment = false;
+    }
     if (reader->fault->kind == FAULT_NONE && feed_is_read(&reader->feed)) {
         feed_move(&reader->feed, feed_offset(&reader->feed));
     }
@@ -1147,21 +1153,29 @@ static bool take_1_1(struct reader *reader, const parser_error *error) {
     return true;
 }
 
-/* Whether libxml2 is behind the system identifier of a parameter entity, or may be. It drops such a declaration if the identifier is no URI for it, and then
- * a later declaration would count. */
-static bool declares_parameter(const xmlParserCtxt *parser, const char *identifier) {
+/* Whether libxml2, which is behind a system identifier, declares a parameter entity, or may do so. */
+static bool declares_parameter(const xmlParserCtxt *parser) {
     static const char begin[] = "<!ENTITY";
     const xmlParserInput *input = parser->input;
-    size_t length = identifier == NULL ? SIZE_MAX / 2 : strlen(identifier) + 2; /* it may have this word itself */
-    if ((size_t)(input->cur - input->base) < length + sizeof begin) {
-        return true;
-    }
-    const xmlChar *at = input->cur - length - (sizeof begin - 1);
-    while (at > input->base && memcmp(at, begin, sizeof begin - 1) != 0) {
+    struct span read = {(const char *)input->base, (size_t)(input->cur - input->base)};
+    size_t at = read.length == 0 ? 0 : read.length - 1;
+    char quote = read.length == 0 ? '\0' : read.data[at];
+    while (at > 0 && read.data[at - 1] != quote) {
         at--;
     }
-    at += sizeof begin - 1;
-    return memcmp(at - (sizeof begin - 1), begin, sizeof begin - 1) != 0 || at[blanks_of((const char *)at, (size_t)(input->cur - at))] == '%';
+    while (at > 0 && read.data[at] != '<') {
+        at--; /* the name, and a public identifier, have no such sign */
+    }
+    struct span rest = span_from(read, at + sizeof begin - 1);
+    size_t blanks = blanks_of(rest.data, rest.length);
+    return !span_begins(span_from(read, at), begin) || blanks == rest.length || rest.data[blanks] == '%';
+}
+
+/* Lets libxml2 go on behind a system identifier with a fragment, which is an error, and no fatal one (4.2.2). It drops a parameter entity with one. */
+static void pass_fragment(struct reader *reader, xmlParserCtxtPtr parser) {
+    parser->recovery = 1;
+    reader->has_fragment = true;
+    reader->declarations.has_dropped |= declares_parameter(parser);
 }
 
 /* Takes what is left of a document type from libxml2. Without memory it would look at the same blank or reference forever. */
@@ -1195,8 +1209,10 @@ static void take_error(void *context, parser_error *error) {
     } else if (reader->feed.parser->instate == XML_PARSER_PI && (error->code == XML_ERR_PEREF_NO_NAME || error->code == XML_ERR_PEREF_SEMICOL_MISSING)) {
         /* libxml2 looks for references there, and XML does not (4.4) */
         fault_set(reader->fault, FAULT_OUTSIDE, error_place(reader, error), "a percent sign in an instruction of a parameter entity: outside the profile");
-    } else if (error->code == XML_ERR_INVALID_URI && declares_parameter(reader->feed.parser, error->str1)) {
+    } else if (error->code == XML_ERR_INVALID_URI && declares_parameter(reader->feed.parser)) {
         reader->declarations.has_dropped = true;
+    } else if (error->code == XML_ERR_URI_FRAGMENT) {
+        pass_fragment(reader, reader->feed.parser);
     } else if (is_too_deep(reader, error)) {
         feed_refuse(&reader->feed, error_place(reader, error), "a declaration has more than %s brackets in one another", reader->feed.models.most,
                     "--max-depth");

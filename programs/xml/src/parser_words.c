@@ -26,7 +26,7 @@ bool takes_prefix_back(const parser_error *error) {
 
 bool is_limit(parser_error *error) {
     bool is_deep = error->code == XML_ERR_ELEMCONTENT_NOT_FINISHED && strstr(known(error->message), "too deep") != NULL;
-    return error->domain == XML_FROM_PARSER && (is_deep || error->code == XML_ERR_NAME_TOO_LONG || error->code == XML_ERR_URI_FRAGMENT);
+    return error->domain == XML_FROM_PARSER && (is_deep || error->code == XML_ERR_NAME_TOO_LONG);
 }
 
 void stop_in_comment(parser_error *error) {
@@ -46,8 +46,6 @@ const char *limit_words(parser_error *error) {
     case XML_ERR_NAME_TOO_LONG:
         return is_of_literal(error) ? "over a limit of this program: a literal has more than 10,000,000 bytes"
                                     : "over a limit of this program: a name has more than 10,000,000 bytes";
-    case XML_ERR_URI_FRAGMENT:
-        return "a system identifier with a fragment: outside the profile";
     default:
         return "over a limit of this program: a declaration has more than 2,048 brackets in one another";
     }
