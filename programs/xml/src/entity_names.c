@@ -3,9 +3,6 @@
 #include "entity_text.h"
 #include "runs.h"
 
-static const char of_declarations[] = "<%";
-static const char of_content[] = "<&";
-
 /* A text that is being written. */
 struct numbering {
     struct long_names *names;
@@ -29,10 +26,11 @@ bool has_long_run(struct span text) {
     return length > LONGEST_NAME;
 }
 
+/* Adds a name. One behind an ampersand may have its number already. */
 static void add_name(struct numbering *numbering, struct span name) {
     char number[NUMBER_BYTES + 1] = "";
     size_t kept = name.length;
-    if (name.length > LONGEST_NAME) {
+    if (!long_names_have(numbering->names, name)) {
         struct bytes whole = NO_BYTES;
         bytes_add(&whole, name.data, name.length);
         numbering->failed |= !long_names_put(numbering->names, &whole, number);
@@ -52,8 +50,7 @@ static void add_section(struct numbering *numbering, struct span section) {
     bytes_add(numbering->to, section.data + begin + target, section.length - begin - target);
 }
 
-/* Adds what is at the start of the text: a section, or what is before the next markup, which may be a name that is put into a declaration. 0: it is other
- * markup, whose names are looked for. */
+/* Adds what is at the start of the text: a section, or what is before the next markup. 0: it is other markup, whose names are looked for. */
 static size_t add_other(struct numbering *numbering, struct span text) {
     size_t section = entity_text_section(text);
     size_t length = 0;
@@ -66,7 +63,6 @@ static size_t add_other(struct numbering *numbering, struct span text) {
         length++;
     }
     bytes_add(numbering->to, text.data, length);
-    numbering->names->is_doubtful |= numbering->beginnings == of_declarations && has_long_run((struct span){text.data, length});
     return length;
 }
 
@@ -90,7 +86,7 @@ static size_t begin_markup(struct numbering *numbering, struct span text) {
 }
 
 bool add_with_numbers(struct long_names *names, struct span text, bool is_of_declarations, struct bytes *to) {
-    struct numbering numbering = {names, {.part = PART_OTHER}, to, is_of_declarations ? of_declarations : of_content, false};
+    struct numbering numbering = {names, {.part = PART_OTHER}, to, is_of_declarations ? "<%" : "<&", false};
     while (text.length > 0 && !numbering.failed) {
         bool is_between = numbering.scan.part == PART_OTHER || (numbering.scan.part == PART_SUBSET && text.data[0] == '<');
         size_t length = is_between ? add_other(&numbering, text) : 0;

@@ -412,14 +412,11 @@ static struct span whole_name(const struct reader *reader, struct span name) {
     return long_names_whole(&reader->feed.shortening.names, name);
 }
 
-/* Refuses a long name that may be another one than it is taken for. */
+/* Refuses a long name without a number. */
 static void check_long_name(struct reader *reader, const xmlChar *name) {
-    const struct long_names *names = &reader->feed.shortening.names;
-    struct span span = span_of(name);
-    bool is_doubtful = names->is_doubtful || reader->declarations.loaded > LONGEST_NAME;
-    if (span.length > LONGEST_NAME && (is_doubtful || !long_names_have(names, span))) {
+    if (!long_names_have(&reader->feed.shortening.names, span_of(name))) {
         fault_set(reader->fault, FAULT_OUTSIDE, declarations_place(&reader->declarations),
-                  "over a limit of this program: a name has more than 9,000,000 bytes, and so may one in an entity");
+                  "over a limit of this program: a name of a parameter entity or an external one has more than 9,000,000 bytes");
     }
 }
 

@@ -1,5 +1,8 @@
 #include "long_names.h"
 
+#include "secret.h"
+
+#include <inttypes.h>
 #include <stdio.h>
 #include <stdlib.h>
 
@@ -55,9 +58,16 @@ static uint32_t number_of(const struct long_names *names, const struct long_name
     return found;
 }
 
+static void write_number(const struct long_names *names, uint32_t index, char number[NUMBER_BYTES + 1]) {
+    snprintf(number, NUMBER_BYTES + 1, "%08" PRIx32 "%016" PRIx64, index, names->secret[0]);
+}
+
 bool long_names_put(struct long_names *names, struct bytes *name, char number[NUMBER_BYTES + 1]) {
     if (name->failed || !has_room(names)) {
         return false;
+    }
+    if (names->count == 0) {
+        choose_secret(names->secret);
     }
     struct long_name new = {*name, hash_of((struct span){name->data, name->length})};
     uint32_t found = number_of(names, &new);
@@ -68,7 +78,7 @@ bool long_names_put(struct long_names *names, struct bytes *name, char number[NU
     } else {
         bytes_free(&new.text);
     }
-    snprintf(number, NUMBER_BYTES + 1, "%08x", (unsigned)found);
+    write_number(names, found, number);
     return true;
 }
 
@@ -83,14 +93,20 @@ size_t long_name_kept(struct span name) {
 /* The long name of which libxml2 has this; NULL: there is none. */
 static const struct long_name *found(const struct long_names *names, struct span name) {
     char number[NUMBER_BYTES + 1] = "";
+    char index[9] = "";
     if (name.length <= LONGEST_NAME || name.length > LONGEST_NAME + NUMBER_BYTES) {
         return NULL;
     }
     size_t kept = name.length - NUMBER_BYTES;
-    memcpy(number, name.data + kept, NUMBER_BYTES);
-    unsigned long index = strspn(number, "0123456789abcdef") == NUMBER_BYTES ? strtoul(number, NULL, 16) : names->count;
-    const struct long_name *one = index < names->count ? &names->names[index] : NULL;
-    return one != NULL && memcmp(one->text.data, name.data, kept) == 0 ? one : NULL;
+    memcpy(index, name.data + kept, sizeof index - 1);
+    unsigned long place = strtoul(index, NULL, 16);
+    if (place >= names->count) {
+        return NULL;
+    }
+    write_number(names, (uint32_t)place, number);
+    const struct long_name *one = &names->names[place];
+    bool is_one = memcmp(number, name.data + kept, NUMBER_BYTES) == 0 && memcmp(one->text.data, name.data, kept) == 0;
+    return is_one ? one : NULL;
 }
 
 bool long_names_have(const struct long_names *names, struct span name) {

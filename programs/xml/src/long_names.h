@@ -1,4 +1,5 @@
-/* Names that are too long for libxml2. It gets each with its first bytes, and a number in the place of the others. */
+/* Names that are too long for libxml2. It gets each with its first bytes, and a number in the place of the others, with a secret, so that no name of the
+ * document itself has it. */
 #ifndef LONG_NAMES_H
 #define LONG_NAMES_H
 
@@ -10,7 +11,7 @@
 #define LONGEST_NAME 9000000 /* bytes that libxml2 gets of a name as they are: it takes 10,000,000 */
 #endif
 
-enum { NUMBER_BYTES = 8 };
+enum { NUMBER_BYTES = 24 };
 
 struct long_name;
 
@@ -20,7 +21,7 @@ struct long_names {
     uint32_t count;
     uint32_t capacity;
     size_t held; /* the bytes that they have */
-    bool is_doubtful; /* libxml2 may have a name that is as long, and has no number */
+    uint64_t secret[2];
 };
 
 void long_names_free(struct long_names *names);

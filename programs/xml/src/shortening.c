@@ -13,7 +13,10 @@ struct left_out {
 
 static const char mark_begin[] = "{left-out:";
 
-enum { MARK_LENGTH = sizeof mark_begin - 1 + NUMBER_BYTES + 1 };
+enum {
+    DIGITS = 8, /* of the number of a part */
+    MARK_LENGTH = sizeof mark_begin - 1 + DIGITS + 1
+};
 
 void shortening_free(struct shortening *shortening) {
     shortening_forget(shortening);
@@ -212,16 +215,16 @@ size_t shortening_close(struct shortening *shortening, char in_place[IN_PLACE_BY
 
 /* The first mark of a part in the text, and its part. Returns where it is; the length of the text if there is none. */
 static size_t next_mark(const struct shortening *shortening, struct span text, struct left_out **part) {
-    char number[NUMBER_BYTES + 1] = "";
+    char number[DIGITS + 1] = "";
     for (size_t at = 0; at + MARK_LENGTH <= text.length; at++) {
         const char *found = memchr(text.data + at, mark_begin[0], text.length - MARK_LENGTH + 1 - at);
         at = found == NULL ? text.length : (size_t)(found - text.data);
         if (found == NULL || !span_begins(span_from(text, at), mark_begin) || found[MARK_LENGTH - 1] != '}') {
             continue;
         }
-        memcpy(number, found + sizeof mark_begin - 1, NUMBER_BYTES);
+        memcpy(number, found + sizeof mark_begin - 1, DIGITS);
         uint32_t index = (uint32_t)strtoul(number, NULL, 16) - (shortening->next - shortening->part_count);
-        if (index < shortening->part_count && strspn(number, "0123456789abcdef") == NUMBER_BYTES) {
+        if (index < shortening->part_count && strspn(number, "0123456789abcdef") == DIGITS) {
             *part = &shortening->parts[index];
             return at;
         }

@@ -15,7 +15,7 @@
 enum {
     LOOKED_BYTES = LONGEST_NAME / 9, /* of markup, before it is looked at. The feed keeps more */
     KEPT_BYTES = 8192,               /* of a run that libxml2 always gets, so that it is in the run when the rest is left out */
-    IN_PLACE_BYTES = 32              /* more than libxml2 gets in the place of what is left out */
+    IN_PLACE_BYTES = 64              /* more than libxml2 gets in the place of what is left out */
 };
 
 struct left_out;

@@ -1,31 +1,15 @@
 #include "text_table.h"
 
+#include "secret.h"
+
 #include <stdlib.h>
 #include <string.h>
-#include <time.h>
-#ifdef __linux__
-#include <sys/random.h>
-#endif
 
 enum { KEPT_SLOTS = 4096 }; /* a cleared table keeps no more: to clear them takes time for each document */
 
-/* Chooses the secret. Without random bytes, the time and an address have to do. */
-static void choose_secret(struct text_table *table) {
-    struct timespec now = {0, 0};
-    clock_gettime(CLOCK_REALTIME, &now);
-    table->secret[0] = (uint64_t)now.tv_nsec ^ ((uint64_t)now.tv_sec << 32);
-    table->secret[1] = (uint64_t)(uintptr_t)table;
-#ifdef __linux__
-    uint64_t random[2];
-    if (getrandom(random, sizeof random, GRND_NONBLOCK) == (ssize_t)sizeof random) {
-        memcpy(table->secret, random, sizeof random);
-    }
-#endif
-}
-
 void text_table_open(struct text_table *table) {
     memset(table, 0, sizeof *table);
-    choose_secret(table);
+    choose_secret(table->secret);
 }
 
 void text_table_close(struct text_table *table) {
