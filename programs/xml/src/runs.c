@@ -16,13 +16,13 @@ static bool is_one_of(char byte, const char *bytes) {
 }
 
 /* Whether the byte, which is a character by itself, is in a value or an identifier, and nothing but itself. */
-static bool is_itself(const struct run_scan *scan, char byte, const char *others) {
-    return byte > ' ' && byte < 0x7F && byte != scan->quote && !is_one_of(byte, others);
+static bool is_itself(char byte, const char *others) {
+    return byte > ' ' && byte < 0x7F && byte != '"' && byte != '\'' && !is_one_of(byte, others);
 }
 
-/* Whether the run goes on with the byte, which is a character by itself. */
-static bool goes_on(const struct run_scan *scan, char byte) {
-    switch (scan->kind) {
+/* Whether the byte, which is a character by itself and no quote, is in runs of this kind. */
+static bool is_in(enum run_kind kind, char byte) {
+    switch (kind) {
         case RUN_NAME:
             return is_letter_or_digit(byte) || is_one_of(byte, "-._");
         case RUN_BLANKS:
@@ -30,19 +30,33 @@ static bool goes_on(const struct run_scan *scan, char byte) {
         case RUN_ZEROS:
             return byte == '0';
         case RUN_PUBLIC:
-            return is_letter_or_digit(byte) || (byte != scan->quote && is_one_of(byte, " \n-'()+,./:=?;!*#@$_%"));
+            return is_letter_or_digit(byte) || is_one_of(byte, " \n-()+,./:=?;!*#@$_%");
         case RUN_SYSTEM:
-            return is_blank_byte(byte) || is_itself(scan, byte, "#");
+            return is_blank_byte(byte) || is_itself(byte, "#");
         case RUN_VALUE:
-            return is_blank_byte(byte) || is_itself(scan, byte, "<&");
+            return is_blank_byte(byte) || is_itself(byte, "<&");
         case RUN_WORD:
-            return is_itself(scan, byte, "<&");
+            return is_itself(byte, "<&");
         case RUN_ENTITY:
-            return is_blank_byte(byte) || is_itself(scan, byte, "%&");
+            return is_blank_byte(byte) || is_itself(byte, "%&");
         case RUN_NONE:
             break;
     }
     return false;
+}
+
+enum { BYTES = 256, FIRST_OF_LONGER = 0x80 /* the first byte that is no character by itself */ };
+
+/* The kinds of runs that each byte is in: a bit for each. */
+static const unsigned *kinds_of_bytes(void) {
+    static _Thread_local unsigned kinds[BYTES];
+    if (kinds['0'] == 0) {
+        for (unsigned at = 0; at < FIRST_OF_LONGER * RUN_KINDS; at++) {
+            enum run_kind kind = (enum run_kind)(at % RUN_KINDS);
+            kinds[at / RUN_KINDS] |= is_in(kind, (char)(at / RUN_KINDS)) ? 1U << kind : 0;
+        }
+    }
+    return kinds;
 }
 
 /* Whether the run goes on with the character. */
@@ -64,17 +78,39 @@ static bool goes_on_with(const struct run_scan *scan, uint32_t code) {
     return false;
 }
 
-size_t run_length(const struct run_scan *scan, struct span text) {
+/* Whether the byte is the other quote than the one around the literal. Only a public identifier has no other one (production 13). */
+static bool is_other_quote(const struct run_scan *scan, char byte) {
+    bool is_quote = byte == '\'' || (byte == '"' && scan->kind != RUN_PUBLIC);
+    return is_quote && scan->kind >= RUN_PUBLIC && byte != scan->quote;
+}
+
+/* How many bytes the character has with which the run goes on and that is not by itself in such runs; 0: it does not go on. */
+static size_t other_size(const struct run_scan *scan, struct span text) {
     size_t size = 1;
-    size_t at = 0;
-    while (at < text.length) {
-        char byte = text.data[at];
-        bool is_alone = ((unsigned char)byte & 0x80) == 0;
-        size = 1;
-        if (is_alone ? !goes_on(scan, byte) : !goes_on_with(scan, code_point(text, at, &size))) {
-            break;
-        }
-        at += size;
+    if ((unsigned char)text.data[0] < FIRST_OF_LONGER) {
+        return is_other_quote(scan, text.data[0]) ? 1 : 0;
+    }
+    return goes_on_with(scan, code_point(text, 0, &size)) ? size : 0;
+}
+
+/* How many bytes at the start of the text are of the kinds with these bits. Values of megabytes are looked at by this. */
+static size_t plain_length(struct span text, unsigned bits) {
+    const unsigned *kinds = kinds_of_bytes();
+    const char *end = text.data + text.length;
+    const char *at = text.data;
+    while (at < end && (kinds[(unsigned char)*at] & bits) != 0) {
+        at++;
+    }
+    return (size_t)(at - text.data);
+}
+
+size_t run_length(const struct run_scan *scan, struct span text) {
+    unsigned bits = 1U << scan->kind;
+    size_t at = plain_length(text, bits);
+    size_t size = 1;
+    while (at < text.length && size > 0) {
+        size = other_size(scan, span_from(text, at));
+        at += size == 0 ? 0 : size + plain_length(span_from(text, at + size), bits);
     }
     return at < text.length ? at : text.length;
 }

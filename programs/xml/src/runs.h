@@ -18,6 +18,8 @@ enum run_kind {
     RUN_ENTITY  /* of the literal of an entity, but for references */
 };
 
+enum { RUN_KINDS = RUN_ENTITY + 1 };
+
 /* What is being read of markup. */
 enum run_part {
     PART_OTHER,  /* nothing that has such runs */
