@@ -166,10 +166,17 @@ static void add_to_word(struct run_scan *scan, struct span text) {
     }
 }
 
+/* How many bytes the character at the start of the text has. */
+static size_t character_size(struct span text) {
+    size_t size = 1;
+    code_point(text, 0, &size);
+    return size < text.length ? size : text.length;
+}
+
 /* Whether the character at the start of the text is in names. */
 static bool is_of_name(struct span text) {
     const struct run_scan name = {.kind = RUN_NAME};
-    return run_length(&name, text) > 0;
+    return run_length(&name, (struct span){text.data, character_size(text)}) > 0;
 }
 
 /* Looks at what comes behind an ampersand or `&#`. False: it is nothing of a reference. */
@@ -278,13 +285,6 @@ static void look_at_other(struct run_scan *scan, struct span text) {
     } else {
         look_outside(scan, byte);
     }
-}
-
-/* How many bytes the character at the start of the text has. */
-static size_t character_size(struct span text) {
-    size_t size = 1;
-    code_point(text, 0, &size);
-    return size < text.length ? size : text.length;
 }
 
 size_t runs_look(struct run_scan *scan, struct span text) {

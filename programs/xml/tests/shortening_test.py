@@ -160,6 +160,16 @@ class Whole(InFolder):
             self.assertEqual(self.judged(f"{front}<b/><c/></r>", "s.rnc")[0].split(" ")[0], f"d.xml:{line}:{column + 4}:")
 
 
+class Literals(InFolder):
+    """Long literals that libxml2 gets whole."""
+
+    def test_their_time_grows_with_their_length(self):
+        text = "a" * 1_200_000
+        for document in (f"<r xmlns:p='{text}'/>", f"<!DOCTYPE r [<!ATTLIST r a CDATA '{text}'>]><r/>"):
+            self.write("d.xml", document)
+            self.assertIn("attribute of more than 65,536 bytes", self.run_in(XML2PYX, "d.xml")[1])
+
+
 class Boundaries(InFolder):
     """libxml2 takes the first byte of a character for one by itself where it has no more bytes."""
 
