@@ -79,7 +79,7 @@ static size_t add_run(struct numbering *numbering, struct span text) {
 
 /* Begins with the markup at the start of the text. */
 static size_t begin_markup(struct numbering *numbering, struct span text) {
-    runs_begin(&numbering->scan, 0, text);
+    runs_begin(&numbering->scan, 0, text, false);
     size_t length = (size_t)numbering->scan.looked;
     bytes_add(numbering->to, text.data, length);
     return length;

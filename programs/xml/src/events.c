@@ -413,11 +413,15 @@ static struct span whole_name(const struct reader *reader, struct span name) {
 }
 
 /* Refuses a long name without a number. */
-static void check_long_name(struct reader *reader, const xmlChar *name) {
-    if (!long_names_have(&reader->feed.shortening.names, span_of(name))) {
+static void check_long_span(struct reader *reader, struct span name) {
+    if (!long_names_have(&reader->feed.shortening.names, name)) {
         fault_set(reader->fault, FAULT_OUTSIDE, declarations_place(&reader->declarations),
                   "over a limit of this program: a name of a parameter entity or an external one has more than 9,000,000 bytes");
     }
+}
+
+static void check_long_name(struct reader *reader, const xmlChar *name) {
+    check_long_span(reader, span_of(name));
 }
 
 static void add_declarations(struct reader *reader, struct start_event *start, int count, const xmlChar **namespaces) {
@@ -1034,10 +1038,13 @@ static const xmlChar *whole_written(struct reader *reader, const xmlChar *writte
     if (prefix.length <= LONGEST_NAME && local.length <= LONGEST_NAME) {
         return written;
     }
+    check_long_span(reader, prefix);
     prefix = whole_name(reader, prefix);
     bytes_add(&whole, prefix.data, prefix.length);
     if (local.length > 0) {
-        local = whole_name(reader, span_from(local, 1));
+        local = span_from(local, 1);
+        check_long_span(reader, local);
+        local = whole_name(reader, local);
         bytes_add_byte(&whole, ':');
         bytes_add(&whole, local.data, local.length);
     }

@@ -458,9 +458,10 @@ static struct span whole_characters(struct span text, size_t most) {
 
 /* Looks for long runs in the markup. A percent sign begins a reference in a document type alone. */
 static void look_for_runs(struct feed *feed, uint64_t markup) {
-    if (feed_byte(feed, markup) != '%' || is_in_subset(feed)) {
+    bool is_declared = is_in_subset(feed);
+    if (feed_byte(feed, markup) != '%' || is_declared) {
         struct span text = {feed->text.data, feed->text.length};
-        shortening_look(&feed->shortening, markup, whole_characters(text, feed->given), feed->begin);
+        shortening_look(&feed->shortening, markup, whole_characters(text, feed->given), feed->begin, is_declared);
     }
 }
 

@@ -2,6 +2,8 @@
 
 #include "xml_names.h"
 
+enum { WORDS_OF_LIST = 2 /* before the attributes: `ATTLIST` and the name of the element */ };
+
 /* Whether the code is that of a character, and of no control character. */
 static bool is_plain(uint32_t code) {
     return code >= 0xA0 && code != 0xFFFE && code != 0xFFFF;
@@ -248,7 +250,7 @@ static void look_outside(struct run_scan *scan, char byte) {
     }
 }
 
-void runs_begin(struct run_scan *scan, uint64_t offset, struct span text) {
+void runs_begin(struct run_scan *scan, uint64_t offset, struct span text, bool is_declared) {
     bool has_types = scan->has_types;
     bool is_declaration = span_begins(text, "<!") || span_begins(text, "<?");
     *scan = (struct run_scan){.looked = offset, .has_types = has_types};
@@ -261,6 +263,9 @@ void runs_begin(struct run_scan *scan, uint64_t offset, struct span text) {
     } else if (text.data[0] == '<') {
         scan->part = PART_TAG;
         scan->looked += span_begins(text, "</") ? 2 : 1;
+    } else if (is_declared && is_of_name(text)) {
+        scan->part = PART_DECLARATION;
+        scan->words = WORDS_OF_LIST;
     }
 }
 

@@ -53,8 +53,9 @@ struct run_scan {
     size_t word_length;
 };
 
-/* Begins to look at the markup that is at the start of the text, which has at least four bytes, at the offset. */
-void runs_begin(struct run_scan *scan, uint64_t offset, struct span text);
+/* Begins to look at the markup that is at the start of the text, which has at least four bytes, at the offset. In a document type it may be the rest of a list
+ * of attributes, from the name of one on. */
+void runs_begin(struct run_scan *scan, uint64_t offset, struct span text, bool is_declared);
 
 /* Looks at the text, which begins at `looked`, up to where a run ends. Returns how many bytes it looked at. */
 size_t runs_look(struct run_scan *scan, struct span text);

@@ -50,7 +50,7 @@ static size_t look(struct shortening *shortening, struct span text) {
     return length;
 }
 
-void shortening_look(struct shortening *shortening, uint64_t markup, struct span text, uint64_t begin) {
+void shortening_look(struct shortening *shortening, uint64_t markup, struct span text, uint64_t begin, bool is_declared) {
     struct run_scan *scan = &shortening->scan;
     uint64_t end = begin + text.length;
     if (end < markup + LOOKED_BYTES) {
@@ -60,7 +60,7 @@ void shortening_look(struct shortening *shortening, uint64_t markup, struct span
         struct span start = markup < begin ? (struct span){"", 0} : span_from(text, (size_t)(markup - begin));
         shortening->markup = markup;
         if (start.length >= sizeof "<!--" - 1) {
-            runs_begin(scan, markup, start);
+            runs_begin(scan, markup, start, is_declared);
         } else {
             scan->part = PART_OTHER;
             scan->looked = end;

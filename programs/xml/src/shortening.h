@@ -38,8 +38,8 @@ struct shortening {
 
 void shortening_free(struct shortening *shortening);
 
-/* Looks at what libxml2 has of the markup, once it is long. The text begins at the offset, and ends with a whole character. */
-void shortening_look(struct shortening *shortening, uint64_t markup, struct span text, uint64_t begin);
+/* Looks at what libxml2 has of the markup, which may be in a document type, once it is long. The text begins at the offset, and ends with a whole character. */
+void shortening_look(struct shortening *shortening, uint64_t markup, struct span text, uint64_t begin, bool is_declared);
 
 /* Leaves out blanks from the offset on, up to which libxml2 has read nothing but blanks. */
 void shortening_begin_blanks(struct shortening *shortening, uint64_t offset);

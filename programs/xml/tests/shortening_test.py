@@ -134,6 +134,14 @@ class Whole(InFolder):
                 self.assertIn("malformed", line[:60])
                 self.assertLess(len(line), 1_000)
 
+    def test_each_attribute_of_a_list(self):
+        self.write("s.rnc", 'element r { attribute * { xsd:string { length = "3" } }* }')
+        for length in (9_500_000, 12_000_000):
+            name = "a" * length
+            for before in ("", "b CDATA #IMPLIED ", "PUBLIC CDATA 'x y' c (d) #IMPLIED "):
+                document = f"<!DOCTYPE r [<!ATTLIST r {before}{name} NMTOKENS #IMPLIED>]><r {name}=' a  b '/>"
+                self.assert_same(self.judged(document, "s.rnc"), ("d.xml: valid\n", 0))
+
     def test_the_target_of_an_instruction(self):
         before = "<a>" + "<!-- x -->" * 10_000
         for length in (2_000_000, 12_000_000):
