@@ -121,6 +121,7 @@ class Whole(InFolder):
         for letter, other in (("a", "b"), ("\u3042", "\u3044")):
             name = letter * (12_000_000 // len(letter.encode()))
             good = (f"<r><{name} {name}='1' {name}{other}='2'>x</{name}></r>", f"<r><b xmlns:{name}='u'><{name}:b {name}:{name}=''/></b></r>",
+                    f"<!DOCTYPE r [<!ENTITY e '<b/>'>]><r><{name}>&e;&e;</{name}></r>",
                     f"<!DOCTYPE r [<!ENTITY {name} 'v'><!ENTITY % {name} '<!ELEMENT r ANY>'> %{name}; <?{name}?>]><r a='&{name};'>&{name};</r>",
                     f"<!DOCTYPE r [<!ENTITY e '<{name}>x</{name}>'>]><r>&e;<{name}/></r>",
                     f"<!DOCTYPE r [<!ENTITY % p '<!ENTITY {name} &#34;v&#34;>'>%p;]><r>&{name};</r>")
