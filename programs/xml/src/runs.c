@@ -204,6 +204,8 @@ static bool look_in_reference(struct run_scan *scan, struct span text, bool is_n
 static void look_in_literal(struct run_scan *scan, char byte) {
     if (byte == scan->quote) {
         scan->quote = '\0';
+    } else if (scan->literal == RUN_PUBLIC) {
+        scan->part = PART_OTHER; /* libxml2 finds a fault there */
     } else if (byte == '&') {
         scan->reference = REFERENCE_BEGUN;
     } else {

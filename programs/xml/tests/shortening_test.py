@@ -104,6 +104,13 @@ class Variant(InFolder):
         self.assertGreater(good, DOCUMENTS // 4)
 
 
+    def test_the_place_of_a_fault_between_two_runs(self):
+        text = "a" * 20_000
+        for byte in "^&\u3042\t":
+            document = f"<!DOCTYPE r PUBLIC '{text}{byte}{text}' 'b'><r/>"
+            self.assert_same(self.converted(self.folder / "variant/xml2pyx", document), self.converted(XML2PYX, document))
+
+
 class Whole(InFolder):
     """Names of more than 10,000,000 bytes, and what is beside them."""
 
