@@ -2,6 +2,7 @@
 
 #include "parser_memory.h"
 
+#include <ctype.h>
 #include <string.h>
 
 enum {
@@ -12,7 +13,9 @@ enum {
     SHORT_BYTES = 256,      /* of a reference that is passed over */
     COUNTED_BYTES = 128,    /* whose line feeds are counted together: fewer than 256 */
     FORGOTTEN_BYTES = 65536, /* the text that was read is forgotten in pieces of this length */
-    AHEAD_BYTES = 2         /* that are known behind what libxml2 gets */
+    AHEAD_BYTES = 2,        /* that are known behind what libxml2 gets */
+    LONG_RUN = 32,          /* bytes of blanks, or of a name. Several of them are as long as what libxml2 has at the beginning of a declaration: 250 */
+    NEAR_BYTES = 128        /* within which such a run is searched */
 };
 
 static const char of_element[] = "<!ELEMENT";
@@ -598,11 +601,40 @@ static size_t before_end(struct span text, size_t at) {
     return is_behind_two ? at - 2 : is_behind_one ? at - 1 : at;
 }
 
+/* Where the run of blanks, or of bytes of names, begins that ends there, if it is no longer than LONG_RUN bytes. */
+static size_t begin_of_run(struct span text, size_t end) {
+    size_t at = end;
+    bool is_of_blanks = is_blank(text.data[end - 1]);
+    bool goes_on = true;
+    while (at > 0 && end - at < LONG_RUN && goes_on) {
+        char byte = text.data[at - 1];
+        bool is_of_name = ((unsigned char)byte & 0x80) != 0 || isalnum((unsigned char)byte) || byte == '-' || byte == '.' || byte == '_' || byte == ':';
+        goes_on = is_of_blanks ? is_blank(byte) : is_of_name;
+        at -= goes_on;
+    }
+    return at;
+}
+
+/* A place in the last long run of blanks, or of bytes of names, if it ends near the place; the place itself if there is none. Behind such a run libxml2 looks at
+ * several bytes, as those of `SYSTEM`, without seeing to it that it has them. */
+static size_t in_long_run(struct span text, size_t place) {
+    size_t at = place;
+    while (at > 0 && place - at < NEAR_BYTES) {
+        size_t begin = begin_of_run(text, at);
+        if (at - begin >= LONG_RUN) {
+            return at - 1;
+        }
+        at = begin < at ? begin : at - 1;
+    }
+    return place;
+}
+
 /* How many of the next bytes libxml2 gets, if it gets so many at most. Where it has read all that it has, it takes the first byte of a longer character for one
  * by itself, which it may have in a name, and does not see `]]>` in content if that goes on behind. So the bytes end neither before such a character nor
- * within `]]>`. */
+ * within `]]>`, nor soon behind a long run. */
 static size_t good_count(const struct feed *feed, struct span next, size_t most) {
     size_t count = next.length < most ? next.length : most;
+    count = feed->has_ended && count == next.length ? count : in_long_run(next, count);
     bool is_before_longer = count < next.length ? ((unsigned char)next.data[count] & 0xC0) == 0xC0 : !feed->has_ended;
     size_t good = before_end(next, is_before_longer && count > 0 ? count - 1 : count);
     return good > 0 ? good : count;

@@ -211,6 +211,16 @@ class Boundaries(InFolder):
                     self.write("d.xml", document)
                     self.assertEqual(self.run_in(XML2PYX, "d.xml")[1:], ("", 0), shift)
 
+    def test_what_comes_behind_long_names_and_blanks(self):
+        """libxml2 looks at several bytes there, and sees only to it that it has 250 before the name."""
+        for length in (62, 85, 90, 240, 250):
+            name = ("\u3042" if length < 100 else "a") * length
+            for declared in (f"<!ELEMENT {name}~ ANY>", f"<!ELEMENT {name}~ EMPTY>", f"<!NOTATION {name}~ SYSTEM 'a'>", f"<?{name}?>", f"<!ELEMENT b{' ' * length}ANY>",
+                             f"<?b{' ' * length}?>", f"<!ENTITY {name}~ PUBLIC 'a' 'b'>", f"<!ATTLIST {name}~ b CDATA #IMPLIED>"):
+                text = "".join(declared.replace("~", str(at)) + "\n" * (at % 7) for at in range(2_000))
+                self.write("d.xml", f"<!DOCTYPE r [{text}]><r/>")
+                self.assertEqual(self.run_in(XML2PYX, "d.xml")[1:], ("", 0), declared)
+
 
 if __name__ == "__main__":
     unittest.main()
