@@ -4,6 +4,7 @@
 #include "external.h"
 #include "nested_parameters.h"
 #include "parser_memory.h"
+#include "xml_names.h"
 
 #include <libxml/SAX2.h>
 #include <libxml/parserInternals.h>
@@ -104,17 +105,10 @@ void declarations_note(struct declarations *declarations, struct place place, co
     bytes_free(&line);
 }
 
-/* Whether the name, which XML allows, is a QName (Namespaces in XML, production 7). */
-static bool is_qname(const char *name) {
-    const char *colon = strchr(name, ':');
-    if (colon == NULL) {
-        return true;
-    }
-    return colon != name && colon[1] != '\0' && strchr(colon + 1, ':') == NULL && xmlValidateNCName((const xmlChar *)colon + 1, 0) == 0;
-}
-
+/* Checks that the name, which XML allows, is a QName (Namespaces in XML, production 7). */
 void declarations_check_name(struct declarations *declarations, const xmlChar *name) {
-    if (!is_qname(plain(name))) {
+    size_t colon = 0;
+    if (!is_qname((struct span){plain(name), strlen(plain(name))}, &colon)) {
         fault_set(declarations->feed->fault, FAULT_MALFORMED, declarations_place(declarations), "malformed XML: the name '%s' is no QName of Namespaces in XML",
                   plain(name));
     }

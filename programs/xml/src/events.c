@@ -1164,9 +1164,9 @@ static bool declares_parameter(const xmlParserCtxt *parser) {
     struct span read = {(const char *)input->base, (size_t)(input->cur - input->base)};
     size_t at = read.length == 0 ? 0 : read.length - 1;
     char quote = read.length == 0 ? '\0' : read.data[at];
-    while (at > 0 && read.data[at - 1] != quote) {
-        at--;
-    }
+    do {
+        at -= at > 0;
+    } while (at > 0 && read.data[at] != quote);
     while (at > 0 && read.data[at] != '<') {
         at--; /* the name, and a public identifier, have no such sign */
     }

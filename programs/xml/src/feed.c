@@ -10,12 +10,13 @@ enum {
     HELD_BYTES = 1000000000,  /* of a tag or a declaration that libxml2 may hold: it takes no more */
     LONG_BYTES = 1048576,     /* the beginning of longer markup is not kept */
     MOST_CONSUMED = 1 << 30, /* the greatest offset that libxml2 has */
-    SHORT_BYTES = 256,      /* of a reference that is passed over */
+    SHORT_BYTES = 4096,     /* of a reference that is passed over */
     COUNTED_BYTES = 128,    /* whose line feeds are counted together: fewer than 256 */
     FORGOTTEN_BYTES = 65536, /* the text that was read is forgotten in pieces of this length */
     AHEAD_BYTES = 2,        /* that are known behind what libxml2 gets */
     LONG_RUN = 32,          /* bytes of blanks, or of a name. Several of them are as long as what libxml2 has at the beginning of a declaration: 250 */
-    NEAR_BYTES = 128        /* within which such a run is searched */
+    NEAR_BYTES = 128,       /* within which such a run is searched */
+    SEARCHED_BYTES = 1024   /* for the beginning of an instruction */
 };
 
 static const char of_element[] = "<!ELEMENT";
@@ -601,32 +602,35 @@ static size_t before_end(struct span text, size_t at) {
     return is_behind_two ? at - 2 : is_behind_one ? at - 1 : at;
 }
 
-/* Where the run of blanks, or of bytes of names, begins that ends there, if it is no longer than LONG_RUN bytes. */
-static size_t begin_of_run(struct span text, size_t end) {
-    size_t at = end;
-    bool is_of_blanks = is_blank(text.data[end - 1]);
-    bool goes_on = true;
-    while (at > 0 && end - at < LONG_RUN && goes_on) {
-        char byte = text.data[at - 1];
-        bool is_of_name = ((unsigned char)byte & 0x80) != 0 || isalnum((unsigned char)byte) || byte == '-' || byte == '.' || byte == '_' || byte == ':';
-        goes_on = is_of_blanks ? is_blank(byte) : is_of_name;
-        at -= goes_on;
-    }
-    return at;
+enum byte_kind { BYTE_OTHER, BYTE_BLANK, BYTE_OF_NAME };
+
+static enum byte_kind kind_of_byte(char byte) {
+    bool is_of_name = ((unsigned char)byte & 0x80) != 0 || isalnum((unsigned char)byte) || byte == '-' || byte == '.' || byte == '_' || byte == ':';
+    return is_of_name ? BYTE_OF_NAME : is_blank(byte) ? BYTE_BLANK : BYTE_OTHER;
 }
 
 /* A place in the last long run of blanks, or of bytes of names, if it ends near the place; the place itself if there is none. Behind such a run libxml2 looks at
  * several bytes, as those of `SYSTEM`, without seeing to it that it has them. */
 static size_t in_long_run(struct span text, size_t place) {
-    size_t at = place;
-    while (at > 0 && place - at < NEAR_BYTES) {
-        size_t begin = begin_of_run(text, at);
-        if (at - begin >= LONG_RUN) {
-            return at - 1;
+    size_t first = place > NEAR_BYTES + LONG_RUN ? place - NEAR_BYTES - LONG_RUN : 0;
+    enum byte_kind kind = BYTE_OTHER;
+    size_t end = place;
+    for (size_t at = place; at > first; at--) {
+        enum byte_kind before = kind_of_byte(text.data[at - 1]);
+        end = before == kind ? end : at;
+        kind = before;
+        if (kind != BYTE_OTHER && end - at + 1 >= LONG_RUN) {
+            return end - 1;
         }
-        at = begin < at ? begin : at - 1;
     }
     return place;
+}
+
+/* Whether a declaration or an instruction may be at the place. */
+static bool may_be_declared(const struct feed *feed, struct span text, size_t place) {
+    size_t searched = place < SEARCHED_BYTES ? place : SEARCHED_BYTES;
+    bool is_in_target = feed->section.kind != NULL && feed->section.data == UINT64_MAX;
+    return is_in_subset(feed) || is_in_target || memchr(text.data + (place - searched), '?', searched) != NULL;
 }
 
 /* How many of the next bytes libxml2 gets, if it gets so many at most. Where it has read all that it has, it takes the first byte of a longer character for one
@@ -634,7 +638,8 @@ static size_t in_long_run(struct span text, size_t place) {
  * within `]]>`, nor soon behind a long run. */
 static size_t good_count(const struct feed *feed, struct span next, size_t most) {
     size_t count = next.length < most ? next.length : most;
-    count = feed->has_ended && count == next.length ? count : in_long_run(next, count);
+    bool is_end = feed->has_ended && count == next.length;
+    count = !is_end && may_be_declared(feed, next, count) ? in_long_run(next, count) : count;
     bool is_before_longer = count < next.length ? ((unsigned char)next.data[count] & 0xC0) == 0xC0 : !feed->has_ended;
     size_t good = before_end(next, is_before_longer && count > 0 ? count - 1 : count);
     return good > 0 ? good : count;

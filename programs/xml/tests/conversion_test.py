@@ -420,7 +420,7 @@ class Declared(Converted):
         self.assertEqual(self.pyx('<!DOCTYPE a [<!ATTLIST a xmlns:p CDATA "u"><!ATTLIST a xmlns:p CDATA "v">]><a/>'), b"(a\nAxmlns:p u\n)a\n")
 
     def test_system_identifiers_that_are_no_uri(self):
-        for identifier in ("a b", "a|b", "<!ENTITY x |"):
+        for identifier in ("a b", "a|b", "<!ENTITY x |", "a#b", "<!ENTITY #"):
             found = self.fault(f'<!DOCTYPE a [<!ENTITY % p SYSTEM "{identifier}"><!ENTITY % p "<!ENTITY f \'y\'>">%p;]><a>&f;</a>')[2]
             self.assertEqual(found, "a reference behind a parameter entity whose system identifier is no URI: outside the profile")
             self.assertEqual(self.pyx(f'<!DOCTYPE a [<!ENTITY % p SYSTEM "{identifier}">]><a/>'), b"(a\n)a\n")
