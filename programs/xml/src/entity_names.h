@@ -4,7 +4,7 @@
 
 #include "long_names.h"
 
-/* Whether so many bytes of a text in a row may be a long name. */
+/* Whether the text may have a long name. */
 bool has_long_run(struct span text);
 
 /* Adds the text of an entity, for content or of declarations, with numbers in its long names. False: out of memory. */
