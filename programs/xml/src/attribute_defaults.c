@@ -37,16 +37,19 @@ static void keep_default(struct declarations *declarations, const xmlChar *eleme
         declarations->default_capacity = capacity;
     }
     struct namespace_default *kept = &declarations->defaults[declarations->default_count++];
+    struct bytes whole = NO_BYTES;
     struct bytes unmarked = NO_BYTES;
     enum mark_part part = MARK_NONE;
-    add_unmarked((struct span){(const char *)value, strlen((const char *)value)}, &unmarked);
+    left_out_add(&declarations->feed->shortening.left, (struct span){(const char *)value, strlen((const char *)value)}, &whole);
+    add_unmarked((struct span){whole.data, whole.length}, &unmarked);
     if (declarations->feed->spelling != NULL) {
         spell_controls(&unmarked, 0, declarations->feed->spelling);
     } else if (declarations->feed->decoding.is_1_1) {
         unmarked.length = unmark_controls(unmarked.data, unmarked.length, &part);
     }
     *kept = (struct namespace_default){strdup((const char *)element), strdup((const char *)name), strdup(bytes_text(&unmarked))};
-    bool is_lost = unmarked.failed;
+    bool is_lost = whole.failed || unmarked.failed;
+    bytes_free(&whole);
     bytes_free(&unmarked);
     if (is_lost || kept->element == NULL || kept->name == NULL || kept->value == NULL) {
         declarations_out_of_memory(declarations);

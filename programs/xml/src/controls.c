@@ -151,6 +151,10 @@ void mark_controls(struct control_scan *scan, uint64_t offset, struct span text,
     }
 }
 
+void pass_zeros(struct control_scan *scan, size_t length) {
+    scan->digits += length;
+}
+
 bool mark_controls_in(char *text, size_t length, bool is_content) {
     struct control_scan scan = {.is_content = is_content};
     mark_controls(&scan, 0, (struct span){text, length}, text, length);

@@ -47,6 +47,9 @@ bool is_control(long code);
 /* Copies `count` bytes of the text, with marks in the place of references. The text goes on for LONGEST_CONTROL bytes more, unless the document ends. */
 void mark_controls(struct control_scan *scan, uint64_t offset, struct span text, char *to, size_t count);
 
+/* Passes over so many zeros of a long reference, or other bytes, which libxml2 does not get. */
+void pass_zeros(struct control_scan *scan, size_t length);
+
 /* Writes marks into a text of a DTD, or into the text of an entity for content. Returns whether there are any. */
 bool mark_controls_in(char *text, size_t length, bool is_content);
 

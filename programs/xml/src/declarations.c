@@ -32,6 +32,7 @@ void declarations_open(struct declarations *declarations, struct feed *feed, con
     declarations->skipped.etype = XML_INTERNAL_GENERAL_ENTITY;
     declarations->skipped.name = no_name;
     declarations->skipped.content = no_name;
+    declarations->marked = declarations->skipped;
 }
 
 void declarations_free(struct declarations *declarations) {
@@ -234,7 +235,7 @@ bool declarations_count_written(struct declarations *declarations, uint64_t byte
 }
 
 bool declarations_count(struct declarations *declarations, uint64_t bytes) {
-    uint64_t read = feed_offset(declarations->feed) + declarations->loaded;
+    uint64_t read = declarations->feed->begin + declarations->feed->given + declarations->loaded;
     declarations->expanded += bytes;
     return declarations->expanded <= part_of_memory(declarations) || declarations->expanded / MOST_GROWTH <= read;
 }

@@ -74,6 +74,10 @@ struct declarations {
     struct twin *twins;
     xmlEntity plain;        /* an entity of text alone, which libxml2 takes as it takes `&lt;` */
     xmlEntity skipped;      /* is read instead of an entity that is not declared */
+    xmlEntity marked;       /* is read instead of one of which libxml2 does not get the text in a value, .. */
+    char mark[LEFT_OUT_MARK + 1]; /* .. but this mark */
+    uint64_t value_at;      /* the offset of the markup in which entities have given .. */
+    uint64_t given;         /* .. so many bytes of values */
     struct twin *open;      /* the twins of the innermost entity into whose text others are being put */
     size_t open_count;
     bool fills_content;     /* texts are put in the place of references in content too, and not in values alone */

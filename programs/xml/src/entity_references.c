@@ -14,6 +14,10 @@ enum {
     REFERENCE_COST = 256 /* of a reference, in bytes */
 };
 
+#ifndef MOST_GIVEN
+#define MOST_GIVEN 20000000 /* bytes that libxml2 gets of entities in a value */
+#endif
+
 /* Counts what a reference gives. False: entities give too much. */
 static bool count_reference(struct declarations *declarations, const xmlEntity *entity) {
     /* libxml2 passes all open namespaces to the parser of the entity */
@@ -143,6 +147,65 @@ static void write_text(struct declarations *declarations, xmlEntityPtr entity, b
     close_twin(declarations);
 }
 
+/* Adds what the entity gives in the value of an attribute of the document itself. False: it may not be there, or is left to libxml2. */
+static bool add_value(struct declarations *declarations, xmlEntityPtr entity, struct bytes *to) {
+    struct bytes text = NO_BYTES;
+    bool is_marked = declarations->feed->controls.has_marks; /* the text may have some */
+    if (is_marked || !may_be_put(declarations, entity, true)) {
+        return false;
+    }
+    write_text(declarations, entity, true, &text);
+    bool is_added = !text.failed && entity_text_decoded((struct span){text.data, text.length}, to);
+    if (text.failed || to->failed) {
+        declarations_out_of_memory(declarations);
+    }
+    bytes_free(&text);
+    return is_added && declarations->feed->fault->kind == FAULT_NONE;
+}
+
+size_t declarations_expand(struct declarations *declarations, struct span text, struct bytes *to) {
+    struct span name;
+    struct span rest = text;
+    if (!entity_text_next(&rest, &name) || name.data != text.data + 1) {
+        return 0;
+    }
+    xmlEntityPtr entity = declarations_entity_of(declarations, name);
+    bool is_one = entity != NULL && entity->etype == XML_INTERNAL_GENERAL_ENTITY && count_reference(declarations, entity);
+    return is_one && add_value(declarations, entity, to) ? name.length + strlen("&;") : 0;
+}
+
+/* Whether entities have given so much of the value that libxml2 reads that it is not to get the whole text of another one. */
+static bool has_given_enough(struct declarations *declarations, const xmlEntity *entity) {
+    uint64_t markup = declarations->feed->next;
+    if (declarations->value_at != markup) {
+        declarations->value_at = markup;
+        declarations->given = 0;
+    }
+    declarations->given += (uint64_t)entity->length;
+    bool is_short = entity->length <= LEFT_OUT_MARK && memchr(entity->content, '&', (size_t)entity->length) == NULL;
+    return declarations->given > MOST_GIVEN && !is_short;
+}
+
+/* An entity with a mark in the place of what the entity gives in a value. The entity itself: it may not be there. */
+static xmlEntityPtr left_out(struct declarations *declarations, xmlEntityPtr entity) {
+    struct shortening *shortening = &declarations->feed->shortening;
+    struct bytes text = NO_BYTES;
+    bool is_lasting = declarations->feed->parser->inSubset != 0;
+    if (!add_value(declarations, entity, &text)) {
+        bytes_free(&text);
+        return entity;
+    }
+    if (!left_out_put(&shortening->left, is_lasting, &text, declarations->mark)) {
+        declarations_out_of_memory(declarations);
+        bytes_free(&text);
+        return NULL;
+    }
+    declarations->feed->shortened(declarations->feed->context);
+    declarations->marked.content = (xmlChar *)declarations->mark;
+    declarations->marked.length = LEFT_OUT_MARK;
+    return &declarations->marked;
+}
+
 /* The twin of an entity for content. It is made once. NULL: there is a fault. */
 static struct twin *written_of(struct declarations *declarations, xmlEntityPtr entity, bool is_tall) {
     struct bytes text = NO_BYTES;
@@ -251,7 +314,13 @@ xmlEntityPtr declarations_general(struct declarations *declarations, const xmlCh
         declarations->plain.content = entity->content;
         return &declarations->plain;
     }
-    return rewritten(declarations, entity, is_in_value, has_many);
+    if (is_in_value && has_given_enough(declarations, entity)) {
+        xmlEntityPtr shortened = left_out(declarations, entity);
+        if (shortened != entity) {
+            return shortened;
+        }
+    }
+    return feed->fault->kind == FAULT_NONE ? rewritten(declarations, entity, is_in_value, has_many) : NULL;
 }
 
 /* Whether a step of libxml2 may end with a reference. It may if a declaration or the beginning of the subset is before it. Behind another reference, and at the

@@ -8,4 +8,7 @@
 xmlEntityPtr declarations_general(struct declarations *declarations, const xmlChar *name);
 xmlEntityPtr declarations_parameter(struct declarations *declarations, const xmlChar *name);
 
+/* Adds what the reference at the start of the text gives in a value of the document itself. Returns its length; 0: there is none, or libxml2 is to read it. */
+size_t declarations_expand(struct declarations *declarations, struct span text, struct bytes *to);
+
 #endif

@@ -1,5 +1,7 @@
 #include "entity_text.h"
 
+#include "xml_names.h"
+
 #include <stdlib.h>
 
 /* The blanks, and the bytes that are their marks. libxml2 does not look whether characters of an entity are allowed in a value. */
@@ -159,6 +161,90 @@ void add_unmarked(struct span value, struct bytes *to) {
     }
 }
 
+/* Whether the code is that of a character that is allowed as it is, in all versions of XML. */
+static bool is_plain_code(long code) {
+    bool is_blank = code == '\t' || code == '\n' || code == '\r';
+    bool is_left = code > 0x9F && code < 0xD800;
+    return is_blank || is_left || (code >= ' ' && code < 0x7F) || (code > 0xDFFF && code < 0xFFFE) || (code > 0xFFFF && code < MOST_CODE);
+}
+
+/* The code of the reference to one of the five entities that each document has; -1: it is none. */
+static long predefined_code(struct span name) {
+    static const struct {
+        const char *name;
+        char byte;
+    } entities[] = {{"amp", '&'}, {"lt", '<'}, {"gt", '>'}, {"quot", '"'}, {"apos", '\''}};
+    long code = -1;
+    for (size_t at = 0; at < sizeof entities / sizeof *entities && code < 0; at++) {
+        code = span_is(name, entities[at].name) ? entities[at].byte : -1;
+    }
+    return code;
+}
+
+size_t entity_text_character(struct span text, struct bytes *to) {
+    struct reference reference = reference_at(text);
+    if (reference.length == 0) {
+        return 0;
+    }
+    long code = reference.is_code ? reference.code : predefined_code((struct span){text.data + 1, reference.length - 2});
+    if (!is_plain_code(code)) {
+        return 0;
+    }
+    bytes_add_character(to, (unsigned)code);
+    return reference.length;
+}
+
+static bool is_letter(char byte) {
+    return (byte >= 'a' && byte <= 'z') || (byte >= 'A' && byte <= 'Z');
+}
+
+/* Whether the text is a name of letters and digits of ASCII. */
+static bool is_simple_name(struct span name) {
+    bool is_simple = name.length > 0 && is_letter(name.data[0]);
+    for (size_t at = 1; at < name.length && is_simple; at++) {
+        is_simple = is_letter(name.data[at]) || (name.data[at] >= '0' && name.data[at] <= '9');
+    }
+    return is_simple;
+}
+
+size_t entity_text_kept(struct span text, struct bytes *to) {
+    struct reference reference = reference_at(text);
+    if (reference.length == 0 || reference.is_code) {
+        return entity_text_character(text, to);
+    }
+    if (!is_simple_name((struct span){text.data + 1, reference.length - 2})) {
+        return 0;
+    }
+    bytes_add(to, text.data, reference.length);
+    return reference.length;
+}
+
+/* How many bytes at the start of the text are values as they are. */
+static size_t value_length(struct span text) {
+    size_t length = 0;
+    while (length < text.length && text.data[length] != '&' && text.data[length] != '<' && !is_blank_byte(text.data[length])) {
+        length++;
+    }
+    return length;
+}
+
+bool entity_text_decoded(struct span text, struct bytes *to) {
+    bool is_good = true;
+    while (text.length > 0 && is_good) {
+        size_t length = value_length(text);
+        bytes_add(to, text.data, length);
+        if (length == 0 && is_blank_byte(text.data[0])) {
+            bytes_add_byte(to, ' ');
+            length = 1;
+        } else if (length == 0) {
+            length = entity_text_character(text, to);
+            is_good = length > 0;
+        }
+        text = span_from(text, length);
+    }
+    return is_good && !to->failed;
+}
+
 static void skip(struct rewriting *rewriting, size_t length) {
     struct span *rest = &rewriting->now.rest;
     *rest = (struct span){rest->data + length, rest->length - length};
@@ -304,18 +390,14 @@ void entity_text_content(struct span text, const struct entity_source *source, s
     rewrite(&(struct rewriting){.now = {text, IN_CONTENT, '\0'}, .source = source, .to = to});
 }
 
-static bool is_blank(char byte) {
-    return byte == ' ' || byte == '\t' || byte == '\n' || byte == '\r';
-}
-
 /* Writes the instruction at the start. */
 static void rewrite_instruction(struct rewriting *rewriting, size_t length) {
     struct span rest = rewriting->now.rest;
     size_t at = strlen("<?");
-    while (at < length && !is_blank(rest.data[at]) && rest.data[at] != '?') {
+    while (at < length && !is_blank_byte(rest.data[at]) && rest.data[at] != '?') {
         at++;
     }
-    while (at < length && is_blank(rest.data[at])) {
+    while (at < length && is_blank_byte(rest.data[at])) {
         at++;
     }
     copy(rewriting, at);

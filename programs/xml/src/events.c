@@ -32,6 +32,8 @@ struct reader {
     struct event_sink sink;
     struct fault *fault;
     struct start_event start; /* the last one, with what is open now as its depth */
+    const xmlChar *local;     /* its local name .. */
+    const xmlChar *prefix;    /* .. and its prefix, if it is not usual, as libxml2 has them */
     struct event_attribute *attributes; /* room for those of a tag */
     size_t attribute_capacity;
     struct bytes values; /* those of its attributes that have other characters in the place of marks */
@@ -55,7 +57,6 @@ struct reader {
     struct known_names names; /* at the end, since most of it is not set at first */
 };
 
-static const char marked_value[] = "over a limit of this program: 256,000,000 bytes of markup that has `{left-out:` in a literal";
 static const char long_entity[] = "over a limit of this program: an entity has more than 2,147,483,647 bytes";
 static const char control_character[] = "a control character by a reference, which XML 1.1 has: outside the profile";
 
@@ -331,11 +332,26 @@ static bool unmark(const struct reader *reader, struct span value, const char *s
     return has_blanks || is_marked;
 }
 
-/* The URI of a namespace without marks, in the dictionary. */
+/* The whole URI of a namespace. */
+static const xmlChar *whole_uri(struct reader *reader, const xmlChar *uri) {
+    struct shortening *shortening = &reader->feed.shortening;
+    if (uri == NULL || (shortening->uris.count == 0 && !has_left_out(&shortening->left))) {
+        return uri;
+    }
+    const xmlChar *whole = (const xmlChar *)long_uris_whole(&shortening->uris, &shortening->left, (const char *)uri);
+    reader->has_marked_uri |= whole != uri;
+    if (whole == NULL) {
+        out_of_memory(reader);
+    }
+    return whole == NULL ? uri : whole;
+}
+
+/* The whole URI of a namespace without marks. It stays where it is. */
 static const xmlChar *unmarked_uri(struct reader *reader, const xmlChar *uri) {
     struct bytes text = NO_BYTES;
-    if (!unmark(reader, span_of(uri), reader->feed.spelling, &text)) {
-        return uri;
+    const xmlChar *whole = whole_uri(reader, uri);
+    if (!unmark(reader, span_of(whole), reader->feed.spelling, &text)) {
+        return whole;
     }
     reader->has_marked_uri = true;
     const char *written = bytes_text(&text);
@@ -416,7 +432,7 @@ static struct span whole_name(const struct reader *reader, struct span name) {
 static void check_long_span(struct reader *reader, struct span name) {
     if (!long_names_have(&reader->feed.shortening.names, name)) {
         fault_set(reader->fault, FAULT_OUTSIDE, declarations_place(&reader->declarations),
-                  "over a limit of this program: a name of a parameter entity or an external one has more than 9,000,000 bytes");
+                  "over a limit of this program: a name of a parameter entity or an external one has more than 10,000 bytes");
     }
 }
 
@@ -483,27 +499,57 @@ static struct span unmarked(struct reader *reader, struct span value) {
     return found;
 }
 
-/* Writes the values of a tag whole of which libxml2 has got a part. */
-static void write_whole(struct reader *reader, struct start_event *start) {
-    struct shortening *shortening = &reader->feed.shortening;
-    struct bytes *whole = &shortening->whole;
-    size_t length = 0;
-    for (size_t at = 0; at < start->attribute_count; at++) {
-        length += shortening_count(shortening, start->attributes[at].value);
+/* Whether the blanks of an attribute's value are no part of it as they are: it is declared with another type than CDATA (XML 1.0, 3.3.3). */
+static bool is_tokenized(const struct reader *reader, const xmlChar **attribute) {
+    xmlHashTablePtr types = reader->feed.parser->attsSpecial;
+    void *type = types == NULL ? NULL : xmlHashQLookup2(types, reader->prefix, reader->local, attribute[1], attribute[0]);
+    return type != NULL && (intptr_t)type != XML_ATTRIBUTE_CDATA;
+}
+
+/* Leaves one space between the tokens of the text behind the first bytes. */
+static void leave_one_space(struct bytes *text, size_t begin) {
+    size_t to = begin;
+    for (size_t at = begin; at < text->length; at++) {
+        if (text->data[at] != ' ' || (to > begin && text->data[to - 1] != ' ')) {
+            text->data[to++] = text->data[at];
+        }
     }
-    if (!shortening_is_clear(shortening)) {
-        fault_set(reader->fault, FAULT_OUTSIDE, place_of(start->position), "%s", marked_value);
-    } else if (!bytes_reserve(whole, length)) {
+    text->length = to > begin && text->data[to - 1] == ' ' ? to - 1 : to;
+}
+
+/* How many bytes the values of the tag have as a whole of which libxml2 has got a part. */
+static size_t whole_length(const struct reader *reader) {
+    const struct left_out *left = &reader->feed.shortening.left;
+    size_t length = 0;
+    for (size_t at = 0; at < reader->start.attribute_count; at++) {
+        struct span value = reader->attributes[at].value;
+        length += left_out_is_in(left, value) ? left_out_length(left, value) : 0;
+    }
+    return length;
+}
+
+/* Writes the values of a tag whole of which libxml2 has got a part. */
+static void write_whole(struct reader *reader, const xmlChar **attributes) {
+    const struct left_out *left = &reader->feed.shortening.left;
+    struct bytes *whole = &reader->feed.shortening.whole;
+    size_t length = whole_length(reader);
+    if (!bytes_reserve(whole, length)) {
         out_of_memory(reader);
     }
-    for (size_t at = 0; at < start->attribute_count && is_good(reader); at++) {
+    for (size_t at = 0; at < reader->start.attribute_count && is_good(reader); at++, attributes += 5) {
         struct span *value = &reader->attributes[at].value;
         size_t begin = whole->length;
-        shortening_add_whole(shortening, *value, whole);
+        if (!left_out_is_in(left, *value)) {
+            continue;
+        }
+        left_out_add(left, *value, whole);
+        if (is_tokenized(reader, attributes)) {
+            leave_one_space(whole, begin);
+        }
         *value = (struct span){whole->data + begin, whole->length - begin};
     }
-    feed_check_memory(&reader->feed, place_of(start->position));
-    shortening_forget(shortening);
+    count_defaults(reader, length);
+    feed_check_memory(&reader->feed, place_of(reader->start.position));
 }
 
 static void add_attributes(struct reader *reader, struct start_event *start, int count, const xmlChar **attributes) {
@@ -511,20 +557,21 @@ static void add_attributes(struct reader *reader, struct start_event *start, int
     if (may_have_marks(reader)) {
         clear_values(reader, count, attributes);
     }
-    for (int at = 0; at < count && is_good(reader); at++, attributes += 5) {
+    for (int at = 0; at < count && is_good(reader); at++) {
+        const xmlChar **attribute = attributes + 5 * at;
         void *list = reader->attributes;
-        if (attributes[3] == NULL) {
+        if (attribute[3] == NULL) {
             out_of_memory(reader); /* for the value of a default */
         } else if (has_room(reader, &list, start->attribute_count, &reader->attribute_capacity, sizeof *reader->attributes)) {
             reader->attributes = list;
-            struct span value = {(const char *)attributes[3], (size_t)(attributes[4] - attributes[3])};
+            struct span value = {(const char *)attribute[3], (size_t)(attribute[4] - attribute[3])};
             reader->attributes[start->attribute_count++] =
-                (struct event_attribute){*name_of(reader, attributes[0], attributes[1], attributes[2]), unmarked(reader, value)};
+                (struct event_attribute){*name_of(reader, attribute[0], attribute[1], attribute[2]), unmarked(reader, value)};
         }
     }
     start->attributes = reader->attributes;
-    if (reader->feed.shortening.part_count > 0 && is_good(reader)) {
-        write_whole(reader, start);
+    if (has_left_out(&reader->feed.shortening.left) && is_good(reader)) {
+        write_whole(reader, attributes);
     }
 }
 
@@ -701,6 +748,8 @@ static OUT_OF_LINE void take_any_start(void *context, const xmlChar *local, cons
     } else {
         set_other_tag(reader);
     }
+    reader->local = local;
+    reader->prefix = prefix;
     count_open(reader);
     check_width(reader, (size_t)(attribute_count - default_count) + (size_t)namespace_count);
     count_costs(reader, attribute_count, default_count, attributes);
@@ -720,6 +769,7 @@ static OUT_OF_LINE void take_any_start(void *context, const xmlChar *local, cons
     }
     keep_name(reader, start->name);
     bytes_free(&reader->feed.shortening.whole);
+    left_out_forget(&reader->feed.shortening.left);
     start->has_fleeting_name = false;
     reader->has_double = false;
     reader->has_undeclared = false;
@@ -952,20 +1002,20 @@ static xmlChar *kept_text(struct reader *reader, int type, xmlChar *text, struct
 
 /* The whole text of an entity of which libxml2 has got a part. Free the bytes. */
 static xmlChar *whole_text(struct reader *reader, xmlChar *text, struct bytes *whole) {
-    struct shortening *shortening = &reader->feed.shortening;
+    struct left_out *left = &reader->feed.shortening.left;
     struct span span = span_of(text);
-    if (text == NULL || shortening->part_count == 0 || !feed_is_read(&reader->feed)) {
+    if (text == NULL || !has_left_out(left) || !feed_is_read(&reader->feed)) {
         return text;
     }
-    size_t length = shortening_count(shortening, span);
-    if (!shortening_is_clear(shortening) || length > INT_MAX) {
-        fault_set(reader->fault, FAULT_OUTSIDE, declarations_place(&reader->declarations), "%s", length > INT_MAX ? long_entity : marked_value);
+    size_t length = left_out_length(left, span);
+    if (length > INT_MAX) {
+        fault_set(reader->fault, FAULT_OUTSIDE, declarations_place(&reader->declarations), "%s", long_entity);
     } else if (!bytes_reserve(whole, length + 1)) {
         out_of_memory(reader);
     } else {
-        shortening_add_whole(shortening, span, whole);
+        left_out_add(left, span, whole);
     }
-    shortening_forget(shortening);
+    left_out_forget(left);
     return (xmlChar *)bytes_text(whole);
 }
 
@@ -1329,6 +1379,12 @@ static void take_doubt(void *context, struct place place) {
     parser_memory_pause(false);
 }
 
+/* Adds what a reference gives in a value of which libxml2 gets a part. */
+static size_t expand(void *context, struct span text, struct bytes *to) {
+    struct reader *reader = context;
+    return declarations_expand(&reader->declarations, text, to);
+}
+
 /* The tag that libxml2 reads, or that comes next, has to be looked at. */
 static void take_shortened(void *context) {
     struct reader *reader = context;
@@ -1354,6 +1410,7 @@ static void open_reader(struct reader *reader, const struct byte_source *source,
     reader->feed.before_read = before_read;
     reader->feed.marked = use_marks;
     reader->feed.shortened = take_shortened;
+    reader->feed.expand = expand;
     reader->names.long_names = &reader->feed.shortening.names;
     reader->feed.most_depth = sink->depth == 0 ? USUAL_DEPTH : sink->depth;
 #if LIBXML_VERSION < 20911

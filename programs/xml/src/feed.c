@@ -367,13 +367,13 @@ static bool is_in_subset(const struct feed *feed) {
     return feed->parser != NULL && feed->parser->inSubset != 0;
 }
 
-/* The offset behind the reference at the offset that begins with the byte; the offset itself if there is none, or its name is long. */
+/* The offset behind the reference at the offset that begins with the byte; the offset itself if there is none, or its end is not known. */
 static uint64_t behind_reference(const struct feed *feed, uint64_t offset, char begin) {
     uint64_t at = offset;
     while (at < offset + SHORT_BYTES && feed_byte(feed, offset) == begin && feed_byte(feed, at) != ';') {
         at++;
     }
-    return feed_byte(feed, at) == ';' ? at + 1 : offset;
+    return feed_byte(feed, at) == ';' ? at + 1 : begin == '&' ? shortening_behind(&feed->shortening, offset) : offset;
 }
 
 /* The offset behind what may be before markup: blanks, and the end of a declaration, which comes after its event. */
@@ -547,19 +547,46 @@ static struct span not_given(const struct feed *feed) {
     return (struct span){feed->text.data + feed->given, feed->text.length - feed->given};
 }
 
+/* Passes over bytes that libxml2 does not get. */
+static void pass(struct feed *feed, size_t length) {
+    feed->given += length;
+    feed->scan.next = feed->begin + feed->given;
+    feed->choices_at = feed->scan.next;
+    section_pass(&feed->section, feed->scan.next);
+    pass_zeros(&feed->controls, length);
+    tell_doubt(feed);
+}
+
+/* Leaves out the reference at which libxml2 is in a value. Returns its length; 0: there is none, or it stays. */
+static size_t leave_reference(struct feed *feed) {
+    if (!shortening_may_refer(&feed->shortening, not_given(feed)) || !read_for(feed, SHORT_BYTES)) {
+        return 0;
+    }
+    struct span next = not_given(feed);
+    next.length = next.length < SHORT_BYTES ? next.length : SHORT_BYTES;
+    size_t length = shortening_leave_reference(&feed->shortening, next);
+    if (length > 0 || feed->shortening.scan.kind != RUN_VALUE) {
+        return length;
+    }
+    struct bytes given = NO_BYTES;
+    length = feed->expand(feed->context, next, &given);
+    if (length > 0) {
+        shortening_leave_given(&feed->shortening, length, (struct span){given.data, given.length});
+    }
+    bytes_free(&given);
+    return length;
+}
+
 /* Leaves out the rest of the run at which libxml2 is. What it has got was looked at. */
 static void leave_out(struct feed *feed) {
     size_t length = 0;
-    struct span next;
     do {
-        next = not_given(feed);
-        length = shortening_leave_out(&feed->shortening, next);
-        feed->given += length;
-        feed->scan.next = feed->begin + feed->given;
-        feed->choices_at = feed->scan.next;
-        section_pass(&feed->section, feed->scan.next);
-        tell_doubt(feed);
-    } while (length > 0 && length == next.length && read_for(feed, 1));
+        length = shortening_leave_out(&feed->shortening, not_given(feed));
+        pass(feed, length);
+        size_t reference = leave_reference(feed);
+        pass(feed, reference);
+        length += reference;
+    } while (length > 0 && read_for(feed, KEPT_ZEROS + 1));
 }
 
 /* Gives the bytes before the cut to libxml2, and what it gets in the place of the rest of the run. Returns how many they are. */
@@ -587,11 +614,13 @@ static size_t shortening_cut(struct feed *feed, size_t most) {
     }
     uint64_t markup = feed_markup(feed);
     uint64_t offset = feed->begin + feed->given;
-    if (has_many_blanks(feed, markup, not_given(feed))) {
+    struct span known = not_given(feed);
+    if (has_many_blanks(feed, markup, known)) {
         shortening_begin_blanks(&feed->shortening, offset);
         return 0;
     }
-    return shortening_cut_in(&feed->shortening, markup, offset, whole_characters(not_given(feed), most - IN_PLACE_BYTES), held_by_parser(feed));
+    const struct offered offered = {markup, offset, whole_characters(known, most - IN_PLACE_BYTES), known, held_by_parser(feed)};
+    return shortening_cut_in(&feed->shortening, &offered);
 }
 
 /* The place of `]]>` if the place is inside of one, or the place itself. */
@@ -690,7 +719,7 @@ int feed_read(void *context, char *bytes, int length) {
     size_t wanted = length > 0 ? (size_t)length : 0;
     feed->keep(feed->context);
     count_from_zero(feed);
-    if (!read_for(feed, wanted)) {
+    if (!read_for(feed, wanted + (held_by_parser(feed) < LONGEST_HELD ? 0 : SHORT_BYTES))) {
         return -1;
     }
     if (feed->given == feed->text.length && feed->decoding.fault.kind != FAULT_NONE) {

@@ -68,6 +68,8 @@ struct feed {
     uint64_t doubt_at;                  /* .. this offset; UINT64_MAX: there is none */
     void (*doubtful)(void *context, struct place place); /* is called after libxml2 got the first such code */
     void (*marked)(void *context);      /* is called after libxml2 got the first mark for a control character */
+    size_t (*expand)(void *context, struct span text, struct bytes *to); /* adds what the reference at the start of the text, to an entity of the document, gives
+                                                                          * in a value. Returns its length; 0: it may not be there */
     void (*shortened)(void *context);   /* is called after libxml2 got less of a tag or a declaration than the document has */
     void *context;
 };

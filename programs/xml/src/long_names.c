@@ -16,6 +16,7 @@ void long_names_free(struct long_names *names) {
         bytes_free(&names->names[at].text);
     }
     free(names->names);
+    free(names->places);
 }
 
 static uint64_t hash_of(struct span text) {
@@ -34,28 +35,33 @@ static bool is_equal(const struct long_name *one, const struct long_name *other)
     return one->hash == other->hash && one->text.length == other->text.length && memcmp(one->text.data, other->text.data, one->text.length) == 0;
 }
 
-/* Makes room for one more name. False: out of memory. */
-static bool has_room(struct long_names *names) {
-    if (names->count < names->capacity) {
-        return true;
+/* The place in the table for the name. */
+static uint32_t *place_of(const struct long_names *names, const struct long_name *name) {
+    size_t last = 2 * (size_t)names->capacity - 1;
+    size_t at = (size_t)(name->hash ^ name->hash >> 32) & last;
+    while (names->places[at] != 0 && !is_equal(&names->names[names->places[at] - 1], name)) {
+        at = (at + 1) & last;
     }
-    uint32_t wanted = names->capacity == 0 ? 4 : 2 * names->capacity;
-    struct long_name *longer = wanted < names->capacity ? NULL : realloc(names->names, wanted * sizeof *longer);
-    if (longer == NULL) {
-        return false;
-    }
-    names->names = longer;
-    names->capacity = wanted;
-    return true;
+    return &names->places[at];
 }
 
-/* The number of the name; that of the next new one if it is not there. */
-static uint32_t number_of(const struct long_names *names, const struct long_name *name) {
-    uint32_t found = 0;
-    while (found < names->count && !is_equal(&names->names[found], name)) {
-        found++;
+/* Makes room for twice as many names. False: out of memory. */
+static bool grow(struct long_names *names) {
+    uint32_t wanted = names->capacity == 0 ? 4 : 2 * names->capacity;
+    bool is_possible = wanted > names->capacity && 2 * (size_t)wanted <= SIZE_MAX / sizeof *names->names;
+    struct long_name *longer = is_possible ? realloc(names->names, wanted * sizeof *longer) : NULL;
+    names->names = longer == NULL ? names->names : longer;
+    uint32_t *places = longer == NULL ? NULL : calloc(2 * (size_t)wanted, sizeof *places);
+    if (places == NULL) {
+        return false;
     }
-    return found;
+    free(names->places);
+    names->places = places;
+    names->capacity = wanted;
+    for (uint32_t at = 0; at < names->count; at++) {
+        *place_of(names, &names->names[at]) = at + 1;
+    }
+    return true;
 }
 
 static void write_number(const struct long_names *names, uint32_t index, char number[NUMBER_BYTES + 1]) {
@@ -63,22 +69,23 @@ static void write_number(const struct long_names *names, uint32_t index, char nu
 }
 
 bool long_names_put(struct long_names *names, struct bytes *name, char number[NUMBER_BYTES + 1]) {
-    if (name->failed || !has_room(names)) {
+    if (name->failed || (names->count == names->capacity && !grow(names))) {
         return false;
     }
     if (names->count == 0) {
         choose_secret(names->secret);
     }
     struct long_name new = {*name, hash_of((struct span){name->data, name->length})};
-    uint32_t found = number_of(names, &new);
+    uint32_t *place = place_of(names, &new);
     *name = (struct bytes)NO_BYTES;
-    if (found == names->count) {
+    if (*place == 0) {
         names->held += new.text.capacity;
         names->names[names->count++] = new;
+        *place = names->count;
     } else {
         bytes_free(&new.text);
     }
-    write_number(names, found, number);
+    write_number(names, *place - 1, number);
     return true;
 }
 

@@ -8,7 +8,7 @@
 #include <stdint.h>
 
 #ifndef LONGEST_NAME
-#define LONGEST_NAME 9000000 /* bytes that libxml2 gets of a name as they are: it takes 10,000,000 */
+#define LONGEST_NAME 10000 /* bytes that libxml2 gets of a name as they are. It takes more, but it holds those of all attributes of a tag, and 1,000,000,000 at most */
 #endif
 
 enum { NUMBER_BYTES = 24 };
@@ -20,6 +20,7 @@ struct long_names {
     struct long_name *names; /* by number */
     uint32_t count;
     uint32_t capacity;
+    uint32_t *places;        /* a table by hash: the number of a name, and one more; 0: none. Twice as many as there is room for names */
     size_t held; /* the bytes that they have */
     uint64_t secret[2];
 };

@@ -127,11 +127,18 @@ static void begin_run(struct run_scan *scan, enum run_kind kind, uint64_t offset
     scan->run = offset;
 }
 
-/* The kind of runs in the literal that begins. Namespaces are kept whole. */
+/* Whether the value that begins in a tag is a namespace. */
+static bool is_namespace(const struct run_scan *scan) {
+    return is_word(scan, "xmlns") || (scan->word_length > 5 && memcmp(scan->word, "xmlns:", 6) == 0);
+}
+
+/* The kind of runs in the literal that begins. */
 static enum run_kind kind_of_literal(const struct run_scan *scan) {
     if (scan->part == PART_TAG) {
-        bool is_namespace = is_word(scan, "xmlns") || (scan->word_length > 5 && memcmp(scan->word, "xmlns:", 6) == 0);
-        return is_namespace ? RUN_NONE : scan->has_types ? RUN_WORD : RUN_VALUE;
+        return scan->has_types && is_namespace(scan) ? RUN_WORD : RUN_VALUE;
+    }
+    if (scan->is_list) {
+        return is_word(scan, "CDATA") || (scan->was_text && is_word(scan, "FIXED")) ? RUN_VALUE : RUN_WORD;
     }
     if (scan->words == 3 && is_word(scan, "PUBLIC")) {
         return scan->literals == 0 ? RUN_PUBLIC : RUN_SYSTEM;
@@ -146,14 +153,17 @@ static enum run_kind kind_of_literal(const struct run_scan *scan) {
 static void open_literal(struct run_scan *scan, char quote) {
     scan->literal = kind_of_literal(scan);
     scan->quote = quote;
+    scan->sure = scan->looked + 1;
     scan->literals++;
-    begin_run(scan, scan->literal, scan->looked + 1);
+    begin_run(scan, scan->literal, scan->sure);
 }
 
 /* Begins a name, or the part of one behind a colon. */
 static void begin_name(struct run_scan *scan) {
     if (!scan->is_joined) {
         scan->is_entity |= scan->words == 1 && is_word(scan, "ENTITY");
+        scan->is_list |= scan->words == 1 && is_word(scan, "ATTLIST");
+        scan->was_text = is_word(scan, "CDATA");
         scan->words++;
         scan->word_length = 0;
     }
@@ -202,6 +212,7 @@ static bool look_in_reference(struct run_scan *scan, struct span text, bool is_n
 
 /* Looks at the byte in a literal that no run goes on with. */
 static void look_in_literal(struct run_scan *scan, char byte) {
+    scan->sure = scan->looked;
     if (byte == scan->quote) {
         scan->quote = '\0';
     } else if (scan->literal == RUN_PUBLIC) {
@@ -237,6 +248,7 @@ static bool is_end_of_part(const struct run_scan *scan, char byte) {
 
 /* Looks at the byte in a tag or declaration, outside literals, that no run goes on with. */
 static void look_outside(struct run_scan *scan, char byte) {
+    scan->behind = scan->part == PART_NAME && byte == ';' ? scan->looked + 1 : 0;
     if (byte == ':') {
         scan->is_joined = true;
         add_to_word(scan, (struct span){":", 1});
@@ -268,6 +280,7 @@ void runs_begin(struct run_scan *scan, uint64_t offset, struct span text, bool i
     } else if (is_declared && is_of_name(text)) {
         scan->part = PART_DECLARATION;
         scan->words = WORDS_OF_LIST;
+        scan->is_list = true;
     }
 }
 

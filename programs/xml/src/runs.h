@@ -13,7 +13,7 @@ enum run_kind {
     RUN_ZEROS,  /* at the beginning of the number of a character */
     RUN_PUBLIC, /* of a public identifier */
     RUN_SYSTEM, /* of a system identifier */
-    RUN_VALUE,  /* of the value of an attribute, in a tag, but for references */
+    RUN_VALUE,  /* of the value of an attribute, or of one by default, but for references */
     RUN_WORD,   /* the same without blanks */
     RUN_ENTITY  /* of the literal of an entity, but for references */
 };
@@ -42,11 +42,15 @@ struct run_scan {
     enum run_kind kind;    /* of this run */
     enum run_part part;
     enum run_reference reference;
+    uint64_t behind;       /* where the reference in content ends that was read; 0: none was */
     bool has_types;        /* values of attributes may have their blanks removed */
     bool is_joined;        /* a colon is directly before */
     bool is_entity;        /* this is the declaration of one */
+    bool is_list;          /* this is the declaration of attributes, .. */
+    bool was_text;         /* .. and the word before the last one is `CDATA` */
     char quote;            /* of the literal that is being read; 0: none is */
     enum run_kind literal; /* the kind of its runs */
+    uint64_t sure;         /* the offset from which on it has nothing at which libxml2 may find a fault */
     unsigned literals;     /* that were read */
     unsigned words;        /* the names that were begun */
     char word[WORD_BYTES]; /* the beginning of the last one */

@@ -1,28 +1,13 @@
 #include "shortening.h"
 
+#include "entity_text.h"
 #include "xml_names.h"
 
-#include <stdio.h>
-#include <stdlib.h>
-
-struct left_out {
-    struct bytes text;
-    uint32_t number;
-    uint32_t times; /* that its mark was counted */
-};
-
-static const char mark_begin[] = "{left-out:";
-
-enum {
-    DIGITS = 8, /* of the number of a part */
-    MARK_LENGTH = sizeof mark_begin - 1 + DIGITS + 1
-};
-
 void shortening_free(struct shortening *shortening) {
-    shortening_forget(shortening);
-    free(shortening->parts);
     bytes_free(&shortening->text);
     bytes_free(&shortening->whole);
+    left_out_free(&shortening->left);
+    long_uris_free(&shortening->uris);
     long_names_free(&shortening->names);
 }
 
@@ -69,6 +54,11 @@ void shortening_look(struct shortening *shortening, uint64_t markup, struct span
     while (scan->looked < end) {
         look(shortening, span_from(text, (size_t)(scan->looked - begin)));
     }
+}
+
+uint64_t shortening_behind(const struct shortening *shortening, uint64_t markup) {
+    bool is_known = shortening->markup == markup && shortening->scan.behind > markup;
+    return is_known ? shortening->scan.behind : markup;
 }
 
 /* Whether a byte is inside a character, and not its first one. */
@@ -127,29 +117,14 @@ size_t shortening_most(const struct shortening *shortening, uint64_t offset, siz
     return is_at_end && most > 8 * IN_PLACE_BYTES ? most - 5 * IN_PLACE_BYTES : most;
 }
 
-/* Where the run is cut, of which libxml2 has got all before the offset; SIZE_MAX: it is not. */
-static size_t cut_of(const struct shortening *shortening, uint64_t offset, struct span next, size_t held) {
-    uint64_t enough = enough_of(shortening, offset, held);
-    bool is_there = enough >= offset && enough < shortening->scan.looked;
-    size_t cut = is_there ? character_at(next, (size_t)(enough - offset)) : SIZE_MAX;
+/* Where the run is cut; SIZE_MAX: it is not. */
+static size_t cut_of(const struct shortening *shortening, const struct offered *offered) {
+    uint64_t offset = offered->offset;
+    uint64_t enough = enough_of(shortening, offset, offered->held);
+    bool is_there = enough >= offset && enough < shortening->scan.looked && enough - offset < offered->next.length;
+    size_t cut = is_there ? character_at(offered->next, (size_t)(enough - offset)) : SIZE_MAX;
     bool is_moved = shortening->scan.kind == RUN_NAME && offset + cut > enough; /* a name is always cut at the same place */
     return is_there && !is_moved && offset + cut < shortening->scan.looked ? cut : SIZE_MAX;
-}
-
-size_t shortening_cut_in(struct shortening *shortening, uint64_t markup, uint64_t offset, struct span next, size_t held) {
-    const struct run_scan *scan = &shortening->scan;
-    if (scan->looked == 0 || scan->looked < offset || shortening->markup != markup || scan->part == PART_OTHER) {
-        return SIZE_MAX;
-    }
-    size_t cut = cut_of(shortening, offset, next, held);
-    while (cut == SIZE_MAX && scan->looked < offset + next.length && scan->part != PART_OTHER) {
-        look(shortening, span_from(next, (size_t)(scan->looked - offset)));
-        cut = cut_of(shortening, offset, next, held);
-    }
-    if (cut != SIZE_MAX) {
-        stop(shortening, offset + cut);
-    }
-    return cut;
 }
 
 /* Writes spaces in the place of other blanks from `begin` on, as libxml2 does in values. */
@@ -161,7 +136,9 @@ static void normalize(struct bytes *text, size_t begin) {
 
 size_t shortening_leave_out(struct shortening *shortening, struct span text) {
     struct run_scan *scan = &shortening->scan;
-    size_t length = run_length(scan, text);
+    size_t run = run_length(scan, text);
+    size_t kept = scan->kind == RUN_ZEROS ? KEPT_ZEROS : 0;
+    size_t length = run > kept ? run - kept : 0;
     size_t begin = shortening->text.length;
     if (scan->kind == RUN_NAME || is_of_value(scan->kind)) {
         bytes_add(&shortening->text, text.data, length);
@@ -174,101 +151,94 @@ size_t shortening_leave_out(struct shortening *shortening, struct span text) {
     return length;
 }
 
-/* Makes room for one more part. False: out of memory. */
-static bool has_room(struct shortening *shortening) {
-    if (shortening->part_count < shortening->part_capacity) {
-        return true;
-    }
-    uint32_t wanted = shortening->part_capacity == 0 ? 4 : 2 * shortening->part_capacity;
-    struct left_out *longer = wanted < shortening->part_capacity ? NULL : realloc(shortening->parts, wanted * sizeof *longer);
-    if (longer == NULL) {
-        return false;
-    }
-    shortening->parts = longer;
-    shortening->part_capacity = wanted;
-    return true;
+bool shortening_may_refer(const struct shortening *shortening, struct span text) {
+    return is_of_value(shortening->scan.kind) && text.length > 0 && text.data[0] == '&';
 }
 
-/* Keeps a part, and writes its mark. */
-static size_t keep_part(struct shortening *shortening, char in_place[IN_PLACE_BYTES]) {
-    shortening->failed |= shortening->text.failed || !has_room(shortening);
-    if (shortening->failed) {
+void shortening_leave_given(struct shortening *shortening, size_t length, struct span text) {
+    bytes_add(&shortening->text, text.data, text.length);
+    shortening->scan.looked += length;
+}
+
+/* Whether the character of a reference, which is at the end of the text, may be in the run as it is. */
+static bool is_allowed(const struct shortening *shortening, size_t before) {
+    const struct bytes *text = &shortening->text;
+    bool is_blank = before < text->length && is_blank_byte(text->data[before]);
+    return !text->failed && !(is_blank && shortening->scan.kind == RUN_WORD);
+}
+
+size_t shortening_leave_reference(struct shortening *shortening, struct span text) {
+    struct bytes *to = &shortening->text;
+    size_t before = to->length;
+    size_t length = shortening->scan.kind == RUN_ENTITY ? entity_text_kept(text, to) : entity_text_character(text, to);
+    if (length == 0 || !is_allowed(shortening, before)) {
+        to->length = to->failed ? to->length : before;
         return 0;
     }
-    struct left_out *part = &shortening->parts[shortening->part_count++];
-    *part = (struct left_out){shortening->text, shortening->next++, 0};
-    shortening->text = (struct bytes)NO_BYTES;
-    shortening->held += part->text.capacity;
-    return (size_t)snprintf(in_place, IN_PLACE_BYTES, "%s%08x}", mark_begin, (unsigned)part->number);
+    shortening->scan.looked += length;
+    return length;
+}
+
+/* Whether a reference in a value or the literal of an entity is looked at next. */
+static bool is_at_reference(const struct run_scan *scan, const struct offered *offered) {
+    bool is_in_literal = scan->quote != '\0' && is_of_value(scan->literal) && scan->reference == REFERENCE_NONE;
+    return is_in_literal && scan->looked >= offered->offset && offered->next.data[scan->looked - offered->offset] == '&';
+}
+
+/* Looks at a reference as one of what may be left out, behind which a run begins. False: it is none. */
+static bool look_at_reference(struct shortening *shortening, struct span text) {
+    struct run_scan *scan = &shortening->scan;
+    scan->kind = scan->literal;
+    bytes_clear(&shortening->text);
+    size_t length = shortening_leave_reference(shortening, text);
+    bytes_clear(&shortening->text);
+    scan->run = scan->looked;
+    return length > 0;
+}
+
+/* Looks at what comes next. Returns where it is cut; SIZE_MAX: it is not. */
+static size_t look_for_cut(struct shortening *shortening, const struct offered *offered) {
+    struct run_scan *scan = &shortening->scan;
+    size_t at = (size_t)(scan->looked - offered->offset);
+    bool is_reference = offered->held >= LONGEST_HELD && is_at_reference(scan, offered);
+    if (is_reference && look_at_reference(shortening, span_from(offered->known, at))) {
+        return offered->offset >= scan->sure + KEPT_BYTES ? at : SIZE_MAX;
+    }
+    look(shortening, span_from(offered->next, at));
+    return cut_of(shortening, offered);
+}
+
+size_t shortening_cut_in(struct shortening *shortening, const struct offered *offered) {
+    const struct run_scan *scan = &shortening->scan;
+    if (scan->looked == 0 || scan->looked < offered->offset || shortening->markup != offered->markup || scan->part == PART_OTHER) {
+        return SIZE_MAX;
+    }
+    size_t cut = cut_of(shortening, offered);
+    while (cut == SIZE_MAX && scan->looked < offered->offset + offered->next.length && scan->part != PART_OTHER) {
+        cut = look_for_cut(shortening, offered);
+    }
+    if (cut != SIZE_MAX) {
+        stop(shortening, offered->offset + cut);
+    }
+    return cut;
 }
 
 size_t shortening_close(struct shortening *shortening, char in_place[IN_PLACE_BYTES]) {
-    if (is_of_value(shortening->scan.kind)) {
-        return keep_part(shortening, in_place);
+    struct run_scan *scan = &shortening->scan;
+    if (is_of_value(scan->kind)) {
+        scan->sure = scan->looked;
+        shortening->failed |= !left_out_put(&shortening->left, scan->is_list, &shortening->text, in_place);
+        return shortening->failed ? 0 : LEFT_OUT_MARK;
     }
-    if (shortening->scan.kind != RUN_NAME) {
+    if (scan->kind != RUN_NAME) {
+        scan->run = scan->looked;
         return 0;
     }
     shortening->failed |= !long_names_put(&shortening->names, &shortening->text, in_place);
     return shortening->failed ? 0 : NUMBER_BYTES;
 }
 
-/* The first mark of a part in the text, and its part. Returns where it is; the length of the text if there is none. */
-static size_t next_mark(const struct shortening *shortening, struct span text, struct left_out **part) {
-    char number[DIGITS + 1] = "";
-    for (size_t at = 0; at + MARK_LENGTH <= text.length; at++) {
-        const char *found = memchr(text.data + at, mark_begin[0], text.length - MARK_LENGTH + 1 - at);
-        at = found == NULL ? text.length : (size_t)(found - text.data);
-        if (found == NULL || !span_begins(span_from(text, at), mark_begin) || found[MARK_LENGTH - 1] != '}') {
-            continue;
-        }
-        memcpy(number, found + sizeof mark_begin - 1, DIGITS);
-        uint32_t index = (uint32_t)strtoul(number, NULL, 16) - (shortening->next - shortening->part_count);
-        if (index < shortening->part_count && strspn(number, "0123456789abcdef") == DIGITS) {
-            *part = &shortening->parts[index];
-            return at;
-        }
-    }
-    return text.length;
-}
-
-size_t shortening_count(struct shortening *shortening, struct span text) {
-    struct left_out *part = NULL;
-    size_t length = text.length;
-    for (size_t at = next_mark(shortening, text, &part); at < text.length; at = next_mark(shortening, text, &part)) {
-        part->times++;
-        length += part->text.length - MARK_LENGTH;
-        text = span_from(text, at + MARK_LENGTH);
-    }
-    return length;
-}
-
-bool shortening_is_clear(const struct shortening *shortening) {
-    bool is_clear = true;
-    for (uint32_t at = 0; at < shortening->part_count && is_clear; at++) {
-        is_clear = shortening->parts[at].times == 1;
-    }
-    return is_clear;
-}
-
-void shortening_add_whole(const struct shortening *shortening, struct span text, struct bytes *to) {
-    struct left_out *part = NULL;
-    for (size_t at = next_mark(shortening, text, &part); at < text.length; at = next_mark(shortening, text, &part)) {
-        bytes_add(to, text.data, at);
-        bytes_add(to, part->text.data, part->text.length);
-        text = span_from(text, at + MARK_LENGTH);
-    }
-    bytes_add(to, text.data, text.length);
-}
-
-void shortening_forget(struct shortening *shortening) {
-    for (uint32_t at = 0; at < shortening->part_count; at++) {
-        bytes_free(&shortening->parts[at].text);
-    }
-    shortening->part_count = 0;
-    shortening->held = 0;
-}
-
 size_t shortening_held(const struct shortening *shortening) {
-    return shortening->names.held + shortening->held + shortening->text.capacity + shortening->whole.capacity;
+    size_t kept = shortening->names.held + shortening->left.held + shortening->uris.held;
+    return kept + shortening->text.capacity + shortening->whole.capacity;
 }

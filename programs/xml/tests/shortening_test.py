@@ -1,13 +1,17 @@
 """Tests of names, identifiers, blanks, zeros and values that are too long for libxml2, which gets less of them."""
 import os
+import pathlib
 import random
 import subprocess
+import tempfile
 import unittest
 
 from testing import HERE, RNCV_XML, XML2PYX, InFolder
 
 DOCUMENTS = int(os.environ.get("RNCV_XML_SHORTENED", "60"))
 ANY = "any = element * { (attribute * { text } | text | any)* } start = any"
+ENTITIES = f"""<!ENTITY short 'xy'><!ENTITY long '{'long ' * 900}'><!ENTITY both '&long;&short; &#38;amp;&short;&#38;#38;"'>
+<!ENTITY blank 'a&#9;&#38;#9;&#13;&#38;#13; b'><!ENTITY tag '&#60;'><!ENTITY loop '&both;&loop;'>"""
 NAMES = "ab-._7\u00b7\u3042\u0300"
 
 
@@ -41,11 +45,21 @@ class Long:
 
     def value(self):
         pieces = ("x", "\u3042", "'", " ", "\n", "{left-out:", "{left-out:00000000}", "{", "\u0085", "\x7f", "\u00e9")
-        return "".join(self.chance.choice((self.text(pieces[:self.chance.choice((2, 5, 11))]), "x", self.reference())) for _ in range(self.chance.randrange(5)))
+        return "".join(self.chance.choice((self.text(pieces[:self.chance.choice((2, 5, 11))]), "x", self.reference(), self.referring()))
+                       for _ in range(self.chance.randrange(5)))
+
+    def referring(self):
+        """References among few other bytes, as in pictures in base 64."""
+        references = ("&#10;", "&#32;", "&#x3042;", "&lt;", "&#038;", "&short;", "&long;", "&both;", "&blank;")
+        other = ("&none;", "&tag;", "&#1;", "&#127;", "&#xD800;", "&", "&;", "&#;", "<", "&loop;", "&both")
+        pieces = [self.chance.choice(references) for _ in range(3)] + ["x", "x y", "  "]
+        piece = "".join(self.chance.choice(pieces) for _ in range(self.chance.choice((1, 7, 30))))
+        return piece * (self.length() // 10 // len(piece) + 1) + ("" if self.chance.random() < 0.95 else self.chance.choice(other))
 
     def attribute(self):
-        prefix = self.chance.choice(("", "", "", "p:", self.names[1] + ":"))
-        return f'{self.blank()}{prefix}{self.chosen()}{self.blank()}="{self.value()}"'
+        prefix = self.chance.choice(("", "", "", "p:", "q:", self.names[1] + ":"))
+        name = self.chance.choice((prefix + self.chosen(), "c", "d", "xmlns:q", "xmlns"))
+        return f'{self.blank()}{name}{self.blank()}="{self.value()}"'
 
     def element(self, depth):
         name = self.chosen()
@@ -68,47 +82,78 @@ class Long:
             f"<!ENTITY % {name} '<!ENTITY {self.chosen()} \"v\">'> %{name};", f"<!NOTATION {name} {self.identifier()}>",
             f"<!ELEMENT {name}{self.blank()}({self.chosen()}|{self.chosen()})*>", f"<!--{self.text('x ')}-->",
             f"<!ATTLIST {name}{self.blank()}c ({self.text('a')}|b) 'b' d NMTOKENS #IMPLIED>", f"<!ATTLIST {name} xmlns:p CDATA 'u'>",
+            f'<!ATTLIST {name} xmlns:q CDATA "{self.value()}" e CDATA{self.blank()}#FIXED "{self.value()}" d NMTOKENS "{self.value()}">',
             f"<?{name} {self.text('x ')}?>", f"<!ENTITY e{name} {self.identifier()} NDATA n>"))
 
     def document(self):
         declared = "".join(self.blank() + self.declaration() for _ in range(self.chance.randrange(6)))
-        entities = "".join(f"<!ENTITY {name} 'v'>" for name in self.names)
+        entities = "".join(f"<!ENTITY {name} 'v'>" for name in self.names) + ENTITIES
+        if self.chance.random() < 0.5:
+            declared, entities = entities, declared
         version = '<?xml version="1.1"?>' if self.chance.random() < 0.1 else ""
-        return f"{version}<!DOCTYPE {self.chosen()} [{declared}{entities}]><r xmlns:p='u' xmlns:{self.names[1]}='w'>{self.element(0)}</r><?{self.chosen()}?>"
+        return f"{version}<!DOCTYPE {self.chosen()} [{declared}{entities}]><r xmlns:p='u' xmlns:q='v' xmlns:{self.names[1]}='w'>{self.element(0)}</r><?{self.chosen()}?>"
+
+
+def build(folder, *limits):
+    """Builds `xml2pyx` with these limits, for the bytes that libxml2 gets."""
+    flags = {"CFLAGS": " ".join(["-O1", *(f"-D{limit}" for limit in limits)]), "ONLY": "xml2pyx"}
+    subprocess.run([HERE / "build.sh", folder], capture_output=True, check=True, env={**os.environ, **flags})
+    return folder / "xml2pyx"
 
 
 class Variant(InFolder):
-    """A build of `xml2pyx` that shortens names and values of 10,000 bytes."""
+    """A build of `xml2pyx` that shortens names and values of some 10,000 bytes, and one that shortens none of them."""
 
-    def setUp(self):
-        super().setUp()
-        flags = {"CFLAGS": "-O1 -DLONGEST_NAME=10000 -DLONGEST_HELD=20000", "ONLY": "xml2pyx"}
-        build = subprocess.run([HERE / "build.sh", self.folder / "variant"], capture_output=True, text=True, check=False, env={**os.environ, **flags})
-        self.assertEqual((build.returncode, build.stderr), (0, ""))
+    @classmethod
+    def setUpClass(cls):
+        cls.builds = tempfile.TemporaryDirectory()
+        folder = pathlib.Path(cls.builds.name)
+        cls.short = build(folder / "short", "LONGEST_HELD=20000", "MOST_GIVEN=5000")
+        cls.whole = build(folder / "whole", "LONGEST_NAME=9000000")
+
+    @classmethod
+    def tearDownClass(cls):
+        cls.builds.cleanup()
 
     def converted(self, program, document):
         self.write("d.xml", document)
         out, reported, status = self.run_in(program, "--lines", "places", "d.xml")
-        return (out, (self.folder / "places").read_text(), "", 0) if status == 0 else ("", "", reported[:60], status)
+        return (out, (self.folder / "places").read_text(), "", 0) if status == 0 else ("", "", reported.splitlines()[-1][:60], status)
+
+    def assert_equal(self, document, what):
+        """Checks that both give the same. Returns whether the document is well-formed."""
+        found, wanted = self.converted(self.short, document), self.converted(self.whole, document)
+        if "is not declared" in found[2]:  # where a long list of attributes is cut, the place may be that of the attribute
+            found, wanted = found[2].split(": ", 1)[1], wanted[2].split(": ", 1)[1]
+        self.assert_same(found, wanted, what)
+        return wanted[-1] == 0
 
     def test_it_gives_the_same(self):
-        good = 0
-        for seed in range(DOCUMENTS):
-            document = Long(seed).document()
-            wanted = self.converted(XML2PYX, document)
-            found = self.converted(self.folder / "variant/xml2pyx", document)
-            is_limit = "over a limit of this program" in found[2]  # entities may have such names, too
-            if not is_limit:
-                self.assert_same(found, wanted, seed)
-            good += wanted[-1] == 0 and not is_limit
+        good = sum(self.assert_equal(Long(seed).document(), seed) for seed in range(DOCUMENTS))
         self.assertGreater(good, DOCUMENTS // 4)
 
+    def test_values_by_types_and_defaults(self):
+        """Blanks of values that are no text count as one each, also in a default and in what references give."""
+        for text in ("a  b\n" * 9_000, "a &#32; &#10;b " * 3_000, "a&e; " * 3_000, "a" * 30_000 + "  " + "b" * 15_000, " " * 40_000 + "b"):
+            for kind in ("CDATA", "NMTOKENS", "CDATA #FIXED"):
+                for front, tag in ((f"a {kind} '{text}'", "<r/>"), (f"a {kind.split()[0]} #IMPLIED", f"<r a='{text}'/>")):
+                    self.assertTrue(self.assert_equal(f"<!DOCTYPE r [<!ENTITY e '  x y'><!ATTLIST r {front}>]>{tag}", (kind, text[:20])))
+
+    def test_namespaces(self):
+        long = "u" * 30_000
+        for one, other in ((long, long + "v"), (long + "&#118;", long + "v"), ("&e;" * 3_000, "xy" * 3_000)):
+            self.assertTrue(self.assert_equal(f"<!DOCTYPE r [<!ENTITY e 'xy'>]><r xmlns:a='{one}' xmlns:b='{other}' a:c='' b:d=''><a:r/></r>", one[:9]))
+        declared = f"<!DOCTYPE r [<!ATTLIST r xmlns CDATA '{long}'>]>"
+        self.assertTrue(self.assert_equal(f"{declared}<r><r><b xmlns=''/></r></r>", "default"))
+
+    def test_a_reference_before_a_long_name(self):
+        name = "a" * 30_000
+        self.assertTrue(self.assert_equal(f"<!DOCTYPE r [<!ENTITY {name} 'v'>]><{name}>&{name};</{name}>", "end"))
 
     def test_the_place_of_a_fault_between_two_runs(self):
         text = "a" * 20_000
         for byte in "^&\u3042\t":
-            document = f"<!DOCTYPE r PUBLIC '{text}{byte}{text}' 'b'><r/>"
-            self.assert_same(self.converted(self.folder / "variant/xml2pyx", document), self.converted(XML2PYX, document))
+            self.assertFalse(self.assert_equal(f"<!DOCTYPE r PUBLIC '{text}{byte}{text}' 'b'><r/>", byte))
 
 
 class Whole(InFolder):
@@ -167,6 +212,18 @@ class Whole(InFolder):
                                  (f"<r{blanks}a='1'b='2'/>", 2), (f"{blanks}<!DOCTYPE{blanks}r{blanks}[{blanks}<?a{blanks}b?>]>{blanks}<r/>", 0)):
             with self.subTest(document[:40]):
                 self.assertEqual(self.judged(document)[1], status)
+
+    def test_namespaces(self):
+        long = "u" * 34_000_000
+        for other, wanted in (("", "malformed"), ("v", "valid")):
+            self.assertIn(wanted, self.judged(f"<r xmlns:a='{long}{other}' xmlns:b='{long}' a:c='' b:c=''><a:r/></r>")[0])
+
+    def test_values(self):
+        self.write("s.rnc", "element r { attribute a { xsd:string { pattern = 'u*vb' } } }")
+        long = "u" * 34_000_000
+        for front, tag, status in (("", f"<r a='{long}vb'/>", 0), ("", f"<r a='{long}v b'/>", 1), (f"<!ATTLIST r a CDATA '{long}&#118;b'>", "<r/>", 0),
+                                   (f"<!ATTLIST r a CDATA '{long}b'>", "<r/>", 1), (f"<!ENTITY e '{long}'>", "<r a='&e;&e;vb'/>", 0)):
+            self.assertEqual(self.judged(f"<!DOCTYPE r [{front}]>{tag}", "s.rnc")[1], status)
 
     def test_places_behind_them(self):
         self.write("s.rnc", "element r { element b { attribute c { text }? }+ }")
