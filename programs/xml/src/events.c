@@ -1116,6 +1116,7 @@ static void take_attribute(void *context, const xmlChar *element, const xmlChar 
     reader->is_unusual = true;
     xmlFreeEnumeration(choices);
     move_on(reader);
+    feed_shrink(&reader->feed);
 }
 
 static void take_element(void *context, const xmlChar *name, int type, xmlElementContentPtr content) {
@@ -1123,6 +1124,8 @@ static void take_element(void *context, const xmlChar *name, int type, xmlElemen
     (void)type;
     declarations_names(&reader->declarations, name, content);
     move_on(reader);
+    feed_move_to_rest(&reader->feed);
+    feed_shrink(&reader->feed);
 }
 
 static xmlEntityPtr give_general(void *context, const xmlChar *name) {

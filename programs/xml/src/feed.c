@@ -3,6 +3,7 @@
 #include "parser_memory.h"
 
 #include <ctype.h>
+#include <libxml/parserInternals.h>
 #include <string.h>
 
 enum {
@@ -418,7 +419,8 @@ static void check_tag(struct feed *feed, uint64_t markup) {
 /* Refuses a declaration with too many choices, before all of it has come. */
 static void check_choices(struct feed *feed, uint64_t markup) {
     uint64_t given = feed->begin + feed->given;
-    if (feed->parser->instate != XML_PARSER_DTD || is_at(feed, markup, "<!--") || is_at(feed, markup, "<?") || is_at(feed, markup, of_element)) {
+    bool is_of_element = is_at(feed, markup, of_element) || (feed->rest_at > 0 && markup == feed->rest_at);
+    if (feed->parser->instate != XML_PARSER_DTD || is_at(feed, markup, "<!--") || is_at(feed, markup, "<?") || is_of_element) {
         return;
     }
     if (feed->choices_begin != feed->next) {
@@ -692,11 +694,38 @@ static size_t give_section(struct feed *feed, char *bytes, size_t most) {
     return next.length + section_cut(&feed->section, bytes, next.length, cut, offset);
 }
 
+void feed_shrink(struct feed *feed) {
+    if (feed_is_read(feed) && held_by_parser(feed) >= LONGEST_HELD) {
+        xmlParserInputShrink(feed->parser->input);
+    }
+}
+
+void feed_move_to_rest(struct feed *feed) {
+    feed_move(feed, feed->parted_at);
+    feed->rest_at = feed->parted_at;
+}
+
+/* Parts a long model in the next bytes, of which libxml2 gets so many at most. Returns how many it gets up to there; 0: no model is parted. */
+static size_t give_parted(struct feed *feed, char *bytes, size_t most) {
+    if (feed->parser == NULL || !feed_is_read(feed) || most < 2 * PARTING_BYTES || held_by_parser(feed) < LONGEST_HELD) {
+        return 0;
+    }
+    size_t cut = model_parting(&feed->models, whole_characters(not_given(feed), most - PARTING_BYTES));
+    if (cut == SIZE_MAX) {
+        return 0;
+    }
+    write_bytes(feed, bytes, cut);
+    size_t length = part_model(&feed->models, bytes + cut);
+    feed->parted_at = feed->begin + feed->given;
+    feed->skew -= length;
+    return cut + length;
+}
+
 /* Gives at most so many bytes to libxml2, with less of long markup and more of long sections. Returns how many they are. */
 static size_t give(struct feed *feed, char *bytes, size_t most) {
-    size_t count = 0;
     most = shortening_most(&feed->shortening, feed->begin + feed->given, most);
-    size_t cut = shortening_cut(feed, most);
+    size_t count = give_parted(feed, bytes, most);
+    size_t cut = shortening_cut(feed, most - count);
     while (cut != SIZE_MAX && feed->fault->kind == FAULT_NONE) {
         count += give_shortened(feed, bytes + count, cut);
         cut = read_for(feed, most - count) ? shortening_cut(feed, most - count) : SIZE_MAX;

@@ -51,6 +51,8 @@ struct feed {
     struct tag_scan scan;
     struct control_scan controls; /* in a document of XML 1.1 */
     struct model_scan models;
+    uint64_t parted_at; /* the offset at which a long model was parted last; 0: none was */
+    uint64_t rest_at;   /* the same for the last one of which libxml2 has read the part before */
     struct section section;
     struct shortening shortening;
     const char *spelling; /* of marks in namespaces (spell_controls); NULL: these become characters */
@@ -138,6 +140,13 @@ static inline void feed_move(struct feed *feed, uint64_t next) {
 static inline void feed_move_on(struct feed *feed, uint64_t next) {
     feed->next = next;
 }
+
+/* Lets libxml2 forget what it has read of the document, if it holds much: it does not between declarations of elements and attributes. The handler of such
+ * a declaration may call this. */
+void feed_shrink(struct feed *feed);
+
+/* Moves on to the rest of the model, if the one that libxml2 has read was parted. */
+void feed_move_to_rest(struct feed *feed);
 
 /* The offset of the markup that is being read, after blanks. */
 uint64_t feed_markup(struct feed *feed);

@@ -1,5 +1,7 @@
 #include "models.h"
 
+#include <stdio.h>
+
 /* What markup begins so. */
 static const struct {
     char text[LONGEST_BEGINNING + 1];
@@ -61,6 +63,10 @@ static char open(struct model_scan *scan) {
         return leave(scan, DEEP_BRACKET);
     }
     scan->depth++;
+    if (scan->depth == 1) {
+        scan->separator = '\0';
+        scan->is_mixed = false;
+    }
     if (scan->depth >= FLAT_DEPTH) {
         bytes_add_byte(&scan->separators, '\0');
         scan->is_after = false;
@@ -114,6 +120,14 @@ static char take_deep(struct model_scan *scan, char byte) {
     }
 }
 
+/* Takes a byte in the outermost bracket, up to the first separator. */
+static void take_outermost(struct model_scan *scan, char byte) {
+    scan->is_mixed |= byte == '#';
+    if (scan->separator == '\0' && (byte == '|' || byte == ',')) {
+        scan->separator = byte;
+    }
+}
+
 /* Takes a byte of the declaration of an element. */
 static char take_inside(struct model_scan *scan, char byte) {
     if (byte == '>') {
@@ -126,6 +140,8 @@ static char take_inside(struct model_scan *scan, char byte) {
         return open(scan);
     } else if (byte == ')' && scan->depth > 0) {
         scan->depth--;
+    } else if (scan->depth == 1) {
+        take_outermost(scan, byte);
     }
     return byte;
 }
@@ -163,7 +179,8 @@ static char take(struct model_scan *scan, char byte) {
 static size_t next(const struct model_scan *scan, struct span text, size_t at) {
     static const char of_parts[][4] = {[MODEL_OUTSIDE] = "<\"'",    [MODEL_LITERAL] = "\"'\"", [MODEL_COMMENT] = "---",
                                        [MODEL_INSTRUCTION] = "???", [MODEL_INSIDE] = "()>",    [MODEL_REFERRING] = ">>>"};
-    bool is_each = scan->part == MODEL_BEGINNING || scan->count > 0 || scan->depth >= FLAT_DEPTH;
+    bool is_outermost = scan->depth == 1 && scan->separator == '\0';
+    bool is_each = scan->part == MODEL_BEGINNING || scan->count > 0 || scan->depth >= FLAT_DEPTH || is_outermost;
     const char *bytes = of_parts[scan->part];
     while (at < text.length && !is_each && text.data[at] != bytes[0] && text.data[at] != bytes[1] && text.data[at] != bytes[2]) {
         at++;
@@ -180,6 +197,23 @@ void make_shallow(struct model_scan *scan, char *text, size_t length) {
             at++;
         }
     }
+}
+
+size_t model_parting(const struct model_scan *scan, struct span text) {
+    size_t depth = scan->part == MODEL_INSIDE && scan->separator != '\0' ? scan->depth : 0;
+    size_t found = SIZE_MAX;
+    for (size_t at = 0; at < text.length && depth > 0 && found == SIZE_MAX; at++) {
+        char byte = text.data[at];
+        bool is_separator = depth == 1 && (byte == '|' || byte == ',');
+        depth += byte == '(';
+        depth -= byte == ')' || byte == '>' || (is_separator && byte != scan->separator);
+        found = is_separator && depth == 1 ? at : SIZE_MAX;
+    }
+    return found;
+}
+
+size_t part_model(const struct model_scan *scan, char text[PARTING_BYTES]) {
+    return (size_t)snprintf(text, PARTING_BYTES, "%s><!ELEMENT left-out (%s", scan->is_mixed ? ")*" : ")", scan->is_mixed ? "#PCDATA" : "a");
 }
 
 /* Whether the declaration in whose text this is refers to a parameter entity. */

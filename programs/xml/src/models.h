@@ -7,10 +7,13 @@
 
 #include "bytes.h"
 
+#include <stdint.h>
+
 enum {
     FLAT_DEPTH = 16,       /* the last bracket that libxml2 gets */
     DEEP_BRACKET = '\x01', /* libxml2 gets this for a bracket above the limit, where a name or a bracket may be. No document has it */
-    LONGEST_BEGINNING = 9  /* `<!ELEMENT` */
+    LONGEST_BEGINNING = 9, /* `<!ELEMENT` */
+    PARTING_BYTES = 48     /* more than libxml2 gets where a model is parted */
 };
 
 /* What is being read of a document or of declarations. */
@@ -33,6 +36,8 @@ struct model_scan {
     char read[LONGEST_BEGINNING]; /* of the beginning */
     size_t count;            /* how many bytes were read of it, or of the end of a comment or an instruction; else 0 */
     size_t depth;            /* of brackets */
+    char separator;          /* that of the outermost bracket; 0: it has not come */
+    bool is_mixed;           /* the model has `#PCDATA` */
     bool is_after;           /* a name or a closed bracket was last, and no separator. This and the next are known from FLAT_DEPTH on */
     bool is_closed;          /* such a bracket is directly before, and libxml2 does not get it */
     struct bytes separators; /* those of the brackets from FLAT_DEPTH on; 0: none yet */
@@ -41,7 +46,14 @@ struct model_scan {
 /* Makes the models in the next bytes shallow. If memory runs out, the separators say so. */
 void make_shallow(struct model_scan *scan, char *text, size_t length);
 
-/* Does the same to the text of a parameter entity or an external DTD, up to the first conditional section. False: out of memory. */
+/* Where the model at the start of the text can be parted: before a separator of its outermost bracket. SIZE_MAX: it can not. */
+size_t model_parting(const struct model_scan *scan, struct span text);
+
+/* Writes what libxml2 gets there: the end of the declaration, and the beginning of one with the rest of the model. It is of an element that does not matter.
+ * Returns the length. */
+size_t part_model(const struct model_scan *scan, char text[PARTING_BYTES]);
+
+/* Makes the models shallow in the text of a parameter entity or an external DTD, up to the first conditional section. False: out of memory. */
 bool make_declarations_shallow(char *text, size_t length, size_t most);
 
 #endif

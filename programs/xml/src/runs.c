@@ -277,7 +277,7 @@ void runs_begin(struct run_scan *scan, uint64_t offset, struct span text, bool i
     } else if (text.data[0] == '<') {
         scan->part = PART_TAG;
         scan->looked += span_begins(text, "</") ? 2 : 1;
-    } else if (is_declared && is_of_name(text)) {
+    } else if (is_declared && (is_of_name(text) || is_one_of(text.data[0], "|,"))) {
         scan->part = PART_DECLARATION;
         scan->words = WORDS_OF_LIST;
         scan->is_list = true;

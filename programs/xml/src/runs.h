@@ -58,7 +58,7 @@ struct run_scan {
 };
 
 /* Begins to look at the markup that is at the start of the text, which has at least four bytes, at the offset. In a document type it may be the rest of a list
- * of attributes, from the name of one on. */
+ * of attributes, from the name of one on, or of a content model, from a separator on. */
 void runs_begin(struct run_scan *scan, uint64_t offset, struct span text, bool is_declared);
 
 /* Looks at the text, which begins at `looked`, up to where a run ends. Returns how many bytes it looked at. */
