@@ -32,26 +32,6 @@ static size_t read_code(struct span text, long *code) {
     return at;
 }
 
-/* Begins a comment, an instruction or a section. */
-static void enter(struct control_scan *scan, char kind, uint64_t offset, const char *begin) {
-    scan->kind = kind;
-    scan->behind = offset + strlen(begin);
-    scan->begin = scan->behind;
-}
-
-/* Finds out what the `<` begins. */
-static void open_markup(struct control_scan *scan, uint64_t offset, struct span rest) {
-    if (span_begins(rest, "<!--")) {
-        enter(scan, '-', offset, "<!--");
-    } else if (span_begins(rest, "<?")) {
-        enter(scan, '?', offset, "<?");
-    } else if (scan->is_content && span_begins(rest, "<![CDATA[")) {
-        enter(scan, '[', offset, "<![CDATA[");
-    } else if (!span_begins(rest, "<!")) {
-        scan->is_content = true;
-    }
-}
-
 /* Begins a mark of so many bytes, for this code. */
 static void begin_mark(struct control_scan *scan, uint64_t offset, size_t length, long code) {
     scan->has_marks = true;
@@ -70,66 +50,37 @@ static void open_mark(struct control_scan *scan, uint64_t offset, struct span re
         scan->delete = NULL;
     } else if (end == LONGEST_CONTROL && code <= DELETE) {
         scan->is_long = true;
-        scan->base = rest.data[2] == 'x' ? 16 : 10;
-        scan->digits = offset + (scan->base == 16 ? strlen("&#x") : strlen("&#"));
-        scan->begin = scan->behind = scan->digits;
+        scan->is_hexadecimal = rest.data[2] == 'x';
+        scan->begin = scan->behind = offset + (scan->is_hexadecimal ? strlen("&#x") : strlen("&#"));
     }
 }
 
-/* Whether libxml2 takes a letter as this digit of a reference: 2.9 takes none as the digits 10, 21, 32, .., counted from 0. */
-static bool takes_letter(uint64_t digit) {
-    return digit % 11 != 10;
-}
-
-/* Goes on over a zero of a long reference. It may be the first of the last digits, which the mark needs. Where libxml2 does not take the `F` of these, it needs
- * one more. */
+/* Goes on over a zero of a long reference. It may be the first of the last digits, which the mark needs. */
 static void look_at_zero(struct control_scan *scan, uint64_t offset, struct span rest) {
-    bool is_hexadecimal = scan->base == 16;
-    const char *delete = is_hexadecimal ? "7F;" : "127;";
+    const char *delete = scan->is_hexadecimal ? "7F;" : "127;";
+    int base = scan->is_hexadecimal ? 16 : 10;
     size_t needed = strlen(delete) + 1;
-    size_t most = needed + (is_hexadecimal && !takes_letter(offset + 2 - scan->digits));
     size_t end = 0;
     long code = 0;
-    while (end < rest.length && end < most && digit_of(rest.data[end], scan->base) >= 0) {
-        code = scan->base * code + digit_of(rest.data[end], scan->base);
+    while (end < rest.length && end < needed && digit_of(rest.data[end], base) >= 0) {
+        code = base * code + digit_of(rest.data[end], base);
         end++;
     }
-    if (end >= needed && end < rest.length && rest.data[end] == ';' && (is_control(code) || code == DELETE)) {
+    if (end == needed && end < rest.length && rest.data[end] == ';' && (is_control(code) || code == DELETE)) {
         begin_mark(scan, offset, end + 1, code);
         scan->delete = delete;
         scan->is_long = false;
     }
 }
 
-/* The end of what is being read. */
-static const char *end_of(const struct control_scan *scan) {
-    return scan->kind == '-' ? "-->" : scan->kind == '?' ? "?>" : "]]>";
-}
-
 /* Goes on over a byte that may have to be looked at. */
 static void look(struct control_scan *scan, uint64_t offset, struct span rest) {
-    char byte = rest.data[0];
-    bool is_quote = byte == '"' || byte == '\'';
-    bool is_in_literal = scan->kind == '"' || scan->kind == '\'';
-    scan->is_long = scan->is_long && byte == '0';
+    scan->is_long = scan->is_long && rest.data[0] == '0';
     if (scan->is_long) {
         look_at_zero(scan, offset, rest);
-    } else if (scan->kind != '\0' && !is_in_literal) {
-        scan->kind = span_begins(rest, end_of(scan)) ? '\0' : scan->kind;
-    } else if (byte == '&') {
+    } else if (markup_look(&scan->markup, offset, rest)) {
         open_mark(scan, offset, rest);
-    } else if (is_in_literal) {
-        scan->kind = byte == scan->kind ? '\0' : scan->kind;
-    } else if (is_quote && !scan->is_content) {
-        scan->kind = byte;
-    } else if (byte == '<') {
-        open_markup(scan, offset, rest);
     }
-}
-
-/* Whether the byte may have to be looked at. */
-static bool is_seen(char byte) {
-    return byte == '&' || byte == '<' || byte == '"' || byte == '\'' || byte == '-' || byte == '?' || byte == ']';
 }
 
 /* The byte of the last mark at the offset. */
@@ -151,12 +102,8 @@ void mark_controls(struct control_scan *scan, uint64_t offset, struct span text,
     }
 }
 
-void pass_zeros(struct control_scan *scan, size_t length) {
-    scan->digits += length;
-}
-
 bool mark_controls_in(char *text, size_t length, bool is_content) {
-    struct control_scan scan = {.is_content = is_content};
+    struct control_scan scan = {.markup = {.is_content = is_content}};
     mark_controls(&scan, 0, (struct span){text, length}, text, length);
     return scan.has_marks;
 }

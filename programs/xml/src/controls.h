@@ -8,9 +8,7 @@
 #ifndef CONTROLS_H
 #define CONTROLS_H
 
-#include "bytes.h"
-
-#include <stdint.h>
+#include "markup_scan.h"
 
 enum { LONGEST_CONTROL = 64 /* bytes of a reference that is found at its begin. Of a longer one the zeros are passed, and then its last digits are found */ };
 
@@ -26,16 +24,14 @@ struct stand_ins {
 
 /* A search for references in a text, and how far it was handed to libxml2. Set it to zero before the first byte of a document or of a text of its DTD. */
 struct control_scan {
-    char kind;       /* what is being read: the quote of a literal of a DTD, `-` of a comment, `?` of an instruction, `[` of a section; 0: none of these */
-    bool is_content; /* this is the root or something behind it, or the text of an entity for content: no literals, but CDATA sections */
-    bool has_marks;  /* a reference was found */
-    bool is_long;    /* the zeros of a long one are being read, .. */
-    int base;        /* .. which has digits of this base, .. */
-    uint64_t digits; /* .. from this offset on */
-    const char *delete; /* the end of a reference to a delete, which begins the mark of a long one; NULL: that of the last one begins with a delete */
-    char letter;     /* of the last one */
-    uint64_t begin;  /* where its mark begins */
-    uint64_t behind; /* where it ends, or what begins a comment, an instruction or a section: the bytes before need no look */
+    struct markup_scan markup;
+    bool has_marks;      /* a reference was found */
+    bool is_long;        /* the zeros of a long one are being read, .. */
+    bool is_hexadecimal; /* .. which has such digits */
+    const char *delete;  /* the end of a reference to a delete, which begins the mark of a long one; NULL: that of the last one begins with a delete */
+    char letter;         /* of the last one */
+    uint64_t begin;      /* where its mark begins */
+    uint64_t behind;     /* where it ends: the bytes before need no look */
 };
 
 /* How much of a mark was read. */
@@ -46,9 +42,6 @@ bool is_control(long code);
 
 /* Copies `count` bytes of the text, with marks in the place of references. The text goes on for LONGEST_CONTROL bytes more, unless the document ends. */
 void mark_controls(struct control_scan *scan, uint64_t offset, struct span text, char *to, size_t count);
-
-/* Passes over so many zeros of a long reference, or other bytes, which libxml2 does not get. */
-void pass_zeros(struct control_scan *scan, size_t length);
 
 /* Writes marks into a text of a DTD, or into the text of an entity for content. Returns whether there are any. */
 bool mark_controls_in(char *text, size_t length, bool is_content);

@@ -175,9 +175,10 @@ static void check_text(struct declarations *declarations, struct span text, bool
     }
 }
 
-/* Marks the references to control characters in the text of an entity. */
+/* Writes the long references in the text of an entity, and marks those to control characters. */
 static void mark(struct declarations *declarations, char *text, size_t length, bool is_parameter) {
     struct feed *feed = declarations->feed;
+    write_long_references_in(text, length, !is_parameter);
     if (feed->decoding.is_1_1 && mark_controls_in(text, length, !is_parameter)) {
         feed_has_marks(feed);
     }

@@ -14,7 +14,6 @@ enum {
     SHORT_BYTES = 4096,     /* of a reference that is passed over */
     COUNTED_BYTES = 128,    /* whose line feeds are counted together: fewer than 256 */
     FORGOTTEN_BYTES = 65536, /* the text that was read is forgotten in pieces of this length */
-    AHEAD_BYTES = 2,        /* that are known behind what libxml2 gets */
     LONG_RUN = 32,          /* bytes of blanks, or of a name. Several of them are as long as what libxml2 has at the beginning of a declaration: 250 */
     NEAR_BYTES = 128,       /* within which such a run is searched */
     SEARCHED_BYTES = 1024   /* for the beginning of an instruction */
@@ -266,6 +265,33 @@ void feed_check_memory(struct feed *feed, struct place place) {
     }
 }
 
+/* Goes on to the last place of the content at which it is known what is being read. */
+static void find_content(struct feed *feed) {
+    struct reference_scan *scan = &feed->references;
+    uint64_t markup = feed_markup(feed);
+    char kind = '\0';
+    uint64_t known = section_is_read(&feed->section, markup, &kind) ? feed->section.content : markup;
+    known = known > feed->begin ? known : feed->begin;
+    if (known > scan->looked && !scan->is_long) {
+        scan->markup = (struct markup_scan){.kind = kind, .is_content = true};
+        scan->looked = known;
+    }
+}
+
+/* Writes long references in what was read of the document. */
+static void write_references(struct feed *feed) {
+    struct reference_scan *scan = &feed->references;
+    struct bytes *text = &feed->text;
+    bool is_end = feed->has_ended || feed->decoding.fault.kind != FAULT_NONE;
+    if (!scan->markup.is_content) {
+        write_long_references(scan, text->data, text->length, feed->begin, is_end);
+    }
+    if (scan->markup.is_content && finds_long_reference(scan, (struct span){text->data, text->length}, feed->begin, is_end)) {
+        find_content(feed);
+        write_long_references(scan, text->data, text->length, feed->begin, is_end);
+    }
+}
+
 /* Reads the next bytes of the document. False: there is a fault. */
 static bool read_more(struct feed *feed) {
     size_t length = 0;
@@ -289,6 +315,7 @@ static bool read_more(struct feed *feed) {
     if (feed->decoding.has_doubt && feed->doubt_at == UINT64_MAX) {
         feed->doubt_at = feed->begin + feed->decoding.doubt_at;
     }
+    write_references(feed);
     return true;
 }
 
@@ -494,7 +521,7 @@ static void stop_asking(struct feed *feed) {
 
 /* Whether there is enough of the text for libxml2, which wants so many bytes. */
 static bool has_enough(const struct feed *feed, size_t wanted) {
-    return feed->text.length - feed->given >= wanted + (feed->decoding.is_1_1 ? LONGEST_CONTROL : AHEAD_BYTES);
+    return feed->text.length - feed->given >= wanted + REFERENCE_AHEAD + (feed->decoding.is_1_1 ? LONGEST_CONTROL : 0);
 }
 
 void feed_has_marks(struct feed *feed) {
@@ -555,7 +582,6 @@ static void pass(struct feed *feed, size_t length) {
     feed->scan.next = feed->begin + feed->given;
     feed->choices_at = feed->scan.next;
     section_pass(&feed->section, feed->scan.next);
-    pass_zeros(&feed->controls, length);
     tell_doubt(feed);
 }
 

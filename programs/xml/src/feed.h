@@ -2,13 +2,14 @@
  *
  * The text is what `decoding.h` makes of the document, so libxml2 sees UTF-8 with a line feed for each line end, whatever the document's encoding. In XML 1.1
  * it sees marks in the place of the references that `controls.h` finds. `models.h` says what it sees of content models, `sections.h` of long comments and the
- * like, `shortening.h` of long names and values. */
+ * like, `shortening.h` of long names and values, `long_references.h` of long references. */
 #ifndef FEED_H
 #define FEED_H
 
 #include "controls.h"
 #include "decoding.h"
 #include "events.h"
+#include "long_references.h"
 #include "models.h"
 #include "sections.h"
 #include "shortening.h"
@@ -50,6 +51,7 @@ struct feed {
     uint64_t next;      /* the offset of the markup or the text that is being read */
     struct tag_scan scan;
     struct control_scan controls; /* in a document of XML 1.1 */
+    struct reference_scan references;
     struct model_scan models;
     uint64_t parted_at; /* the offset at which a long model was parted last; 0: none was */
     uint64_t rest_at;   /* the same for the last one of which libxml2 has read the part before */

@@ -24,15 +24,9 @@ bool takes_prefix_back(const parser_error *error) {
     return is_of_tag && strstr(known(error->message), "Empty XML namespace") != NULL;
 }
 
-/* Whether libxml2 does not take a letter in the number of a character, which it does not where it counts 20 digits and more. */
-static bool is_long_number(const parser_error *error) {
-    const xmlParserCtxt *parser = error->code == XML_ERR_INVALID_HEX_CHARREF ? error->ctxt : NULL;
-    return parser != NULL && parser->input != NULL && *parser->input->cur != '\0' && strchr("ABCDEFabcdef", *parser->input->cur) != NULL;
-}
-
 bool is_limit(parser_error *error) {
     bool is_deep = error->code == XML_ERR_ELEMCONTENT_NOT_FINISHED && strstr(known(error->message), "too deep") != NULL;
-    return error->domain == XML_FROM_PARSER && (is_deep || is_long_number(error) || error->code == XML_ERR_NAME_TOO_LONG);
+    return error->domain == XML_FROM_PARSER && (is_deep || error->code == XML_ERR_NAME_TOO_LONG);
 }
 
 void stop_in_comment(parser_error *error) {
@@ -52,8 +46,6 @@ const char *limit_words(parser_error *error) {
     case XML_ERR_NAME_TOO_LONG:
         return is_of_literal(error) ? "over a limit of this program: a literal has more than 10,000,000 bytes"
                                     : "over a limit of this program: a name has more than 10,000,000 bytes";
-    case XML_ERR_INVALID_HEX_CHARREF:
-        return "over a limit of this program: a reference to a character has more than 20 digits";
     default:
         return "over a limit of this program: a declaration has more than 2,048 brackets in one another";
     }
@@ -102,6 +94,10 @@ void add_words(struct bytes *line, parser_error *error) {
         break;
     case XML_ERR_SEPARATOR_REQUIRED:
         bytes_add_text(line, "',' and '|' in one bracket of a declaration");
+        break;
+    case XML_ERR_INVALID_HEX_CHARREF:
+    case XML_ERR_INVALID_DEC_CHARREF: /* libxml2 may have got another number than the document has */
+        bytes_add_text(line, "neither a digit nor ';' in a reference to a character");
         break;
     case XML_ERR_LT_IN_ATTRIBUTE:
         bytes_add_text(line, "'<' in the value of an attribute");

@@ -68,6 +68,12 @@ void section_look(struct section *section, uint64_t markup, struct span text, ui
     section->searched = begin + text.length;
 }
 
+bool section_is_read(const struct section *section, uint64_t markup, char *kind) {
+    bool is_read = section->kind != NULL && (section->is_continued || section->is_cut || section->begin == markup);
+    *kind = is_read ? section->kind->beside : '\0';
+    return is_read;
+}
+
 void section_pass(struct section *section, uint64_t offset) {
     if (section->kind != NULL && section->data == UINT64_MAX) {
         section->searched = offset;

@@ -28,6 +28,9 @@ struct section {
 /* Looks whether the markup that libxml2 reads is a section, and for its end. The text begins with the offset `begin`, and libxml2 has got it. */
 void section_look(struct section *section, uint64_t markup, struct span text, uint64_t begin);
 
+/* Whether it is known that libxml2 reads a section at the markup. Then `content` is in it, and this is the byte by which markup_scan.h knows its kind. */
+bool section_is_read(const struct section *section, uint64_t markup, char *kind);
+
 /* Passes over bytes of the target of an instruction, up to the offset. */
 void section_pass(struct section *section, uint64_t offset);
 

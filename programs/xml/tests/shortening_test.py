@@ -268,20 +268,6 @@ class Literals(InFolder):
             self.assertIn("attribute of more than 65,536 bytes", self.run_in(XML2PYX, "d.xml")[1])
 
 
-class References(InFolder):
-    """libxml2 takes no letter at some places of a number of more than 20 digits."""
-
-    def test_letters_behind_zeros(self):
-        told = set()
-        for zeros in range(17, 60):
-            for digit in "aDg":
-                self.write("d.xml", f"<r b='&#x{'0' * zeros}{digit};'/>")
-                reported = self.run_in(XML2PYX, "d.xml")[1]
-                self.assertEqual("malformed" in reported, digit == "g", (zeros, digit))
-                told.add("a reference to a character has more than 20 digits" in reported)
-        self.assertEqual(told, {False, True})
-
-
 class Boundaries(InFolder):
     """libxml2 takes the first byte of a character for one by itself where it has no more bytes."""
 
