@@ -178,29 +178,47 @@ static bool may_begin(const struct bytes *text) {
     return text->length < sizeof start - 1 && (text->length == 0 || memcmp(text->data, start, text->length) == 0);
 }
 
-/* Finds the encoding in the first bytes, if they are enough. */
-static void find_encoding(struct decoding *decoding, bool is_end) {
-    struct bytes text = NO_BYTES;
-    bool is_enough = decoding->first.length >= FEWEST_BYTES && decoding->first.length >= decoding->wanted;
-    if (!is_enough && !is_end) {
-        return;
+/* Leaves out blanks of the declaration in the first bytes, which begins behind the mark. */
+static void shorten_declaration(struct decoding *decoding, size_t mark) {
+    static const struct code_unit units[] = {{1, 0, false}, {1, 0, false}, {2, 0, false}, {2, 1, false}, {4, 0, false}, {4, 3, false}, {1, 0, true}};
+    if (!decoding->is_declared) {
+        decoding->is_declared = true;
+        decoding->blanks.looked = mark;
     }
-    size_t mark = mark_of(&decoding->first, &decoding->family);
+    leave_out_blanks(&decoding->blanks, &decoding->first, units[decoding->family]);
+}
+
+/* Finds the encoding in the first bytes, which begin with a mark of this length. */
+static void find_declared(struct decoding *decoding, size_t mark, bool is_end) {
+    struct bytes text = NO_BYTES;
     if (!add_start(decoding, mark, &text)) {
         out_of_memory(decoding);
     } else if (is_end || !may_begin(&text)) {
         struct xml_declaration declaration = xml_declaration_of((struct span){text.data, text.length}, decoding->is_external);
-        decoding->is_known = is_end || !declaration.is_there || declaration.is_whole;
+        decoding->is_known = is_end || !declaration.is_there || declaration.is_whole || decoding->blanks.has_end; /* else it has bytes of no character */
         if (decoding->is_known) {
             set_encoding(decoding, &declaration, text.data, mark > 0);
             decoding->is_1_1 |= is_1_1(&declaration);
             decoding->dropped = decoding->is_external ? declaration.length : 0;
             bytes_cut_front(&decoding->first, mark);
         } else {
-            decoding->wanted = 2 * decoding->first.length; /* so that the time does not grow with its square */
+            shorten_declaration(decoding, mark);
         }
     }
     bytes_free(&text);
+}
+
+/* Does the same, if they are enough. */
+static void find_encoding(struct decoding *decoding, bool is_end) {
+    if (decoding->first.length >= FEWEST_BYTES || is_end) {
+        size_t mark = mark_of(&decoding->first, &decoding->family);
+        if (decoding->is_declared) {
+            shorten_declaration(decoding, mark);
+        }
+        if (!decoding->is_declared || decoding->blanks.has_end || is_end) {
+            find_declared(decoding, mark, is_end);
+        }
+    }
 }
 
 /* The length of the character of UTF-8 that begins with the byte; 0: none does. */

@@ -3,6 +3,7 @@
 #ifndef DECODING_H
 #define DECODING_H
 
+#include "declaration_blanks.h"
 #include "encodings.h"
 #include "fault.h"
 #include "xml_declaration.h"
@@ -23,7 +24,7 @@ struct decoding {
     bool is_1_1;      /* its rules are those of XML 1.1. For an external entity, this is set at first if the document has them */
     size_t dropped;   /* how many bytes of UTF-8 are still to be dropped for that */
     struct bytes first; /* the first bytes, until they show the encoding */
-    size_t wanted;      /* how many of them to wait for */
+    bool is_declared;   /* they begin a declaration, whose end is waited for */
     bool is_known;
     enum family family;
     struct transcoder transcoder;
@@ -34,10 +35,11 @@ struct decoding {
     bool has_doubt;       /* there was a code that other programs read otherwise. The first one .. */
     size_t doubt_at;      /* .. was here in the text that was given then */
     bool after_return;    /* the last character was a carriage return: a line feed behind it belongs to it */
+    struct declaration_blanks blanks; /* what was left out of the declaration */
     struct fault fault;   /* why nothing comes after the text that was given. Its place is the end of that text */
 };
 
-#define NO_DECODING {false, false, 0, NO_BYTES, 0, false, FAMILY_BYTES, NO_TRANSCODER, false, NO_BYTES, {0}, 0, false, 0, false, NO_FAULT}
+#define NO_DECODING {.first = NO_BYTES, .transcoder = NO_TRANSCODER, .decoded = NO_BYTES, .fault = NO_FAULT}
 
 extern const char read_as_java[]; /* the words of a note about such a code */
 

@@ -238,7 +238,7 @@ static void forget(struct feed *feed) {
 
 bool feed_is_over(const struct feed *feed) {
     size_t own = feed->text.capacity + feed->room.capacity + feed->models.separators.capacity + shortening_held(&feed->shortening);
-    return parser_memory_held() + own + feed->kept > feed->most;
+    return parser_memory_held() + own + feed->decoding.first.capacity + feed->kept > feed->most;
 }
 
 const char *feed_raising(const struct feed *feed) {
@@ -262,6 +262,17 @@ void feed_refuse(struct feed *feed, struct place place, const char *what, uint64
 void feed_check_memory(struct feed *feed, struct place place) {
     if (feed_is_over(feed)) {
         feed_refuse(feed, place, "more than %s bytes are held of the document", feed->most, "--max-memory");
+    }
+}
+
+/* Goes on behind an XML declaration of which blanks were left out. */
+static void pass_declaration(struct feed *feed) {
+    const struct declaration_blanks *blanks = &feed->decoding.blanks;
+    size_t length = 0;
+    if (blanks->count > 0 && feed->text.length > 0 && feed->place_at == 0) {
+        feed->place = place_behind_declaration(blanks, (struct span){feed->text.data, feed->text.length}, &length);
+        feed->place_at = length;
+        feed_since(feed);
     }
 }
 
@@ -315,6 +326,10 @@ static bool read_more(struct feed *feed) {
     if (feed->decoding.has_doubt && feed->doubt_at == UINT64_MAX) {
         feed->doubt_at = feed->begin + feed->decoding.doubt_at;
     }
+    if (!feed->decoding.is_known) {
+        feed_check_memory(feed, feed->place);
+    }
+    pass_declaration(feed);
     write_references(feed);
     return true;
 }
