@@ -12,7 +12,7 @@ enum {
 
 struct changing {
     struct span text;
-    uint32_t first;
+    const uint32_t *alike;
     struct bytes *to;
     size_t copied; /* the text before was copied, or changed */
     unsigned members;  /* the bits of what the group, or the atom, has so far */
@@ -30,7 +30,7 @@ static unsigned bits_of(const struct changing *changing, const struct character_
         for (unsigned class = 0; class < CONTROL_CLASSES; class++) {
             bits |= set->first <= controls[class] && controls[class] <= set->last ? 1U << class : 0U;
         }
-        bits |= set->first <= changing->first && changing->first <= set->last ? PRIVATE : 0U;
+        bits |= set->first <= *changing->alike && *changing->alike <= set->last ? PRIVATE : 0U;
     } else if (set->kind == SET_CATEGORIES) {
         bits |= (set->categories & categories_of((struct span){"Cc", 2})) != 0 ? CONTROLS : 0U;
         bits |= (set->categories & categories_of((struct span){"Co", 2})) != 0 ? PRIVATE : 0U;
@@ -86,7 +86,7 @@ static void add_others(const struct changing *changing, unsigned bits) {
     bytes_add_text(changing->to, "^");
     for (unsigned class = 0; class < CONTROL_CLASSES; class++) {
         if ((bits & 1U << class) != 0) {
-            bytes_add_character(changing->to, changing->first + class);
+            bytes_add_character(changing->to, changing->alike[class]);
         }
     }
 }
@@ -130,8 +130,8 @@ static void take_atom(void *context, size_t begin, size_t end) {
     begin_atom(changing);
 }
 
-void add_with_controls(struct span expression, uint32_t first, struct bytes *to) {
-    struct changing changing = {.text = expression, .first = first, .to = to};
+void add_with_controls(struct span expression, const uint32_t *alike, struct bytes *to) {
+    struct changing changing = {.text = expression, .alike = alike, .to = to};
     const struct expression_receiver receiver = {take_set, take_group, take_atom, &changing};
     begin_atom(&changing);
     expression_read(expression, &receiver);

@@ -4,9 +4,9 @@
 
 #include "expressions.h"
 
-/* Adds an expression that takes these characters where the given one takes control characters, and else what that takes, but for these characters: one from
- * `first` on for each class of control characters. The expression tells none of them from the others, and is one that expression_read understands. Its size
- * for the library is the same. */
-void add_with_controls(struct span expression, uint32_t first, struct bytes *to);
+/* Adds an expression that takes these characters where the given one takes control characters, and else what that takes, but for these characters: there is
+ * one for each class of control characters. The expression tells none of them from the others, and is one that expression_read understands. Its size for the
+ * library is the same. */
+void add_with_controls(struct span expression, const uint32_t *alike, struct bytes *to);
 
 #endif

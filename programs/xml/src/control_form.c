@@ -17,9 +17,9 @@ static bool note(struct control_form *form, struct span original, struct span ch
 }
 
 /* Writes the literal of an expression. */
-static bool write_expression(struct control_form *form, struct span original, uint32_t first, struct bytes *to) {
+static bool write_expression(struct control_form *form, struct span original, const uint32_t *alike, struct bytes *to) {
     struct bytes changed = NO_BYTES;
-    add_with_controls(original, first, &changed);
+    add_with_controls(original, alike, &changed);
     struct span span = {changed.data, changed.length};
     bool is_good = !changed.failed && (span_equal(original, span) || note(form, original, span));
     write_literal(to, span);
@@ -28,7 +28,7 @@ static bool write_expression(struct control_form *form, struct span original, ui
 }
 
 /* Writes the simple form, with its expressions changed. False: memory ran out. */
-static bool write_form(struct control_form *form, struct span simple, uint32_t first, struct bytes *to) {
+static bool write_form(struct control_form *form, struct span simple, const uint32_t *alike, struct bytes *to) {
     struct form_literals literals;
     size_t written = 0;
     bool is_good = true;
@@ -37,7 +37,7 @@ static bool write_form(struct control_form *form, struct span simple, uint32_t f
         if (literals.kind == LITERAL_EXPRESSION) {
             bytes_add(to, simple.data + written, literals.begin - written);
             written = literals.end;
-            is_good = write_expression(form, (struct span){literals.text.data, literals.text.length}, first, to);
+            is_good = write_expression(form, (struct span){literals.text.data, literals.text.length}, alike, to);
         }
     }
     bytes_add(to, simple.data + written, simple.length - written);
@@ -149,24 +149,24 @@ static int32_t compile(const struct bytes *text, uint32_t datatypes, rncv_schema
 
 /* ---- the form */
 
-static void set_stand_ins(struct stand_ins *stand_ins, uint32_t first) {
+static void set_stand_ins(struct stand_ins *stand_ins, const uint32_t *alike) {
     for (unsigned class = 0; class < CONTROL_CLASSES; class++) {
-        utf_8_of(first + class, stand_ins->texts[class]);
+        utf_8_of(alike[class], stand_ins->texts[class]);
     }
-    utf_8_of(first + CONTROL_CLASSES, stand_ins->instead);
+    utf_8_of(alike[CONTROL_CLASSES], stand_ins->instead);
 }
 
-int32_t control_form_open(struct control_form *form, rncv_schema *schema, uint32_t first, uint32_t datatypes) {
+int32_t control_form_open(struct control_form *form, rncv_schema *schema, const uint32_t *alike, uint32_t datatypes) {
     struct bytes text = NO_BYTES;
     uint8_t *simple = NULL;
     size_t length = 0;
     memset(form, 0, sizeof *form);
     text_table_open(&form->changed);
     text_table_open(&form->original);
-    set_stand_ins(&form->stand_ins, first);
+    set_stand_ins(&form->stand_ins, alike);
     form->has_alone = alone_schemas_open(&form->alone, datatypes);
     int32_t status = form->has_alone ? schema_form(schema, &simple, &length) : RNCV_MEMORY;
-    if (status == RNCV_DONE && !write_form(form, (struct span){(const char *)simple, length}, first, &text)) {
+    if (status == RNCV_DONE && !write_form(form, (struct span){(const char *)simple, length}, alike, &text)) {
         status = RNCV_MEMORY;
     }
     if (status == RNCV_DONE) {

@@ -20,9 +20,9 @@ struct control_form {
     struct text_table original; /* .. of what the schema has in their place */
 };
 
-/* Makes the form of a schema that was compiled with this set of datatypes. `first` is `first_alike` of schema_controls.h. No document of the handle is in
+/* Makes the form of a schema that was compiled with this set of datatypes. `alike` is that of schema_controls.h. No document of the handle is in
  * progress. The status is RNCV_DONE, RNCV_MEMORY, or another one of rncv_compile_with: there is none, since it breaks a limit. Close it in each case. */
-int32_t control_form_open(struct control_form *form, rncv_schema *schema, uint32_t first, uint32_t datatypes);
+int32_t control_form_open(struct control_form *form, rncv_schema *schema, const uint32_t *alike, uint32_t datatypes);
 void control_form_close(struct control_form *form);
 
 /* What the schema has in the place of an expression of this form. */

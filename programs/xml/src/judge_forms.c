@@ -17,7 +17,7 @@ static int32_t make_form(struct judge *judge) {
     if (form == NULL) {
         return RNCV_MEMORY;
     }
-    int32_t status = control_form_open(form, &judge->asked, judge->controls.first_alike, judge->shared->datatypes);
+    int32_t status = control_form_open(form, &judge->asked, judge->controls.alike, judge->shared->datatypes);
     status = status == RNCV_DONE ? rncv_schema_share(&form->schema, &judge->unused.schema) : status;
     if (status == RNCV_MEMORY) {
         control_form_close(form);
@@ -53,7 +53,7 @@ bool judge_use_controls(struct judge *judge, bool *is_used) {
     if (!judge_know_controls(judge)) {
         return false;
     }
-    if (has_all(&judge->controls.stand_ins) || judge->controls.first_alike == 0) {
+    if (has_all(&judge->controls.stand_ins) || !judge->controls.has_alike) {
         return true;
     }
     int32_t status = make_form(judge);

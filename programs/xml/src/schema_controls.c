@@ -69,7 +69,7 @@ static void choose(struct found *found, struct schema_controls *controls) {
     named_sets_sort(&found->texts);
     named_sets_sort(&found->spaces);
     stand_ins_choose(&found->texts, &controls->stand_ins);
-    controls->first_alike = found->texts.is_strange ? 0 : first_alike(&found->texts, CONTROL_CLASSES + 1);
+    controls->has_alike = !found->texts.is_strange && find_alike(&found->texts, controls->alike, CONTROL_CLASSES + 1);
     choose_spelling(&found->spaces, controls->spelling);
 }
 

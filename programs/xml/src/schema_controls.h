@@ -9,8 +9,8 @@
 struct schema_controls {
     bool is_known;              /* these were found out */
     struct stand_ins stand_ins; /* in texts and values */
-    uint32_t first_alike; /* the first of characters for private use, one more than there are classes: the schema names none of them, and tells none from the
-                           * others. 0: there are none */
+    bool has_alike;             /* there are .. */
+    uint32_t alike[CONTROL_CLASSES + 1]; /* .. such characters for private use, one more than classes: the schema tells none from the others */
     char spelling[5];           /* the end of namespaces with control characters: no namespace of the schema has it behind a delete. Empty: there is none */
 };
 

@@ -66,6 +66,12 @@ uint32_t first_unnamed(const struct named_sets *sets, enum control_class class, 
     return found <= from.last ? found : 0;
 }
 
+/* Marks of the characters of a range: a bit for each. */
+struct marks {
+    uint8_t named[MOST_PRIVATE / 8];  /* the sets have it by itself */
+    uint8_t parted[MOST_PRIVATE / 8]; /* a range of the sets begins with it, or ends before it */
+};
+
 /* Marks the character if it is in the range. */
 static void mark(uint8_t *marks, struct code_range range, uint32_t code) {
     if (code >= range.first && code <= range.last) {
@@ -73,32 +79,42 @@ static void mark(uint8_t *marks, struct code_range range, uint32_t code) {
     }
 }
 
-/* The first of so many characters that have no mark; 0: there are none. */
-static uint32_t first_without(const uint8_t *marks, struct code_range range, uint32_t count) {
-    uint32_t free = 0;
-    uint32_t at = 0;
-    for (; at <= range.last - range.first && free < count; at++) {
-        free = (marks[at / 8] >> at % 8 & 1) != 0 ? 0 : free + 1;
-    }
-    return free == count ? range.first + at - count : 0;
+static bool is_marked(const uint8_t *marks, uint32_t at) {
+    return (marks[at / 8] >> at % 8 & 1) != 0;
 }
 
-/* The same as first_alike, in this range. */
-static uint32_t first_alike_in(const struct named_sets *sets, struct code_range range, uint32_t count) {
-    uint8_t marks[MOST_PRIVATE / 8] = {0};
+static void mark_sets(const struct named_sets *sets, struct code_range range, struct marks *marks) {
     for (uint32_t at = 0; at < sets->count; at++) {
-        mark(marks, range, sets->ranges[at].first);
-        mark(marks, range, sets->ranges[at].last);
+        struct code_range set = sets->ranges[at];
+        if (set.first == set.last) {
+            mark(marks->named, range, set.first);
+        } else {
+            mark(marks->parted, range, set.first);
+            mark(marks->parted, range, set.last + 1);
+        }
     }
-    return first_without(marks, range, count);
 }
 
-uint32_t first_alike(const struct named_sets *sets, uint32_t count) {
+/* The same as find_alike, in this range. */
+static bool find_alike_in(const struct named_sets *sets, struct code_range range, uint32_t *codes, uint32_t count) {
+    struct marks marks = {{0}, {0}};
     uint32_t found = 0;
-    for (size_t at = 0; at < PRIVATE_RANGES && found == 0; at++) {
-        found = first_alike_in(sets, private_ranges[at], count);
+    mark_sets(sets, range, &marks);
+    for (uint32_t at = 0; at <= range.last - range.first && found < count; at++) {
+        found = is_marked(marks.parted, at) ? 0 : found;
+        if (!is_marked(marks.named, at)) {
+            codes[found++] = range.first + at;
+        }
     }
-    return found;
+    return found == count;
+}
+
+bool find_alike(const struct named_sets *sets, uint32_t *codes, uint32_t count) {
+    bool is_found = false;
+    for (size_t at = 0; at < PRIVATE_RANGES && !is_found; at++) {
+        is_found = find_alike_in(sets, private_ranges[at], codes, count);
+    }
+    return is_found;
 }
 
 /* The last character that is in each range which has the class. */

@@ -15,7 +15,7 @@ void stand_ins_choose(const struct named_sets *sets, struct stand_ins *found);
 /* The first character of the range that is in no range of the sets, but for those that have the whole class; 0: there is none. CONTROL_CLASSES is no class. */
 uint32_t first_unnamed(const struct named_sets *sets, enum control_class class, struct code_range from);
 
-/* The first of so many characters for private use, one behind the other, that begin and end no range of the sets; 0: there are none. */
-uint32_t first_alike(const struct named_sets *sets, uint32_t count);
+/* Finds so many characters for private use that each range of the sets has together, or has not. False: there are none. */
+bool find_alike(const struct named_sets *sets, uint32_t *codes, uint32_t count);
 
 #endif

@@ -218,6 +218,18 @@ class Controls(InFolder):
         texts = [f'{HEAD}<a xmlns:p="u"><p:b>{text}</p:b><n259199/></a>' for text in ("\ue000", "&#1;", "x")]
         self.assertEqual([it["verdict"] for it in self.judged("s.rnc", texts)], ["valid", "invalid", "valid"])
 
+    def test_schema_that_names_very_many_characters(self):
+        """All but four for private use, of which ranges take all or none."""
+        free = {0xF0000, 0xF8000, 0xFFFF0, 0xFFFFD}
+        named = "".join(chr(it) for first, last in BLOCKS["PrivateUse"] for it in range(first, last + 1) if it not in free)
+        b = r'element b { xsd:string { pattern = "[\t\n\r -\x{10FFFF}]*" } }'
+        c = r'element c { xsd:string { pattern = "[^\x{F0000}-\x{FFFFD}]" } }'
+        self.write("s.rnc", f'element a {{ {b} | {c} | element d {{ string "{named}" }} }}')
+        rows = (("<b>&#1;</b>", "invalid"), ("<b>\U000f0000\U000ffffd</b>", "valid"), ("<c>&#1;</c>", "valid"), ("<c>\U000f8000</c>", "invalid"),
+                ("<d>&#1;</d>", "invalid"), (f"<d>{named}</d>", "valid"), (f"<d>{named[:-1]}&#1;</d>", "invalid"))
+        found = self.judged("s.rnc", [f"{HEAD}<a>{text}</a>" for text, _ in rows])
+        self.assertEqual([it["verdict"] for it in found], [wanted for _, wanted in rows])
+
 
 if __name__ == "__main__":
     unittest.main(verbosity=1)
