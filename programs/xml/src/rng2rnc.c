@@ -27,8 +27,8 @@ static const char help[] =
     "  -h, --help           this text\n"
     "      --version        the version\n"
     "\n"
-    "Exit status: 0; 3 if a file is no schema, with a line FILE:LINE:COLUMN: WHAT, or is not there; 4 if a file or a device failed;\n"
-    "5 for wrong words; 130 after Ctrl-C; 141 if the output is a closed pipe.\n";
+    "Exit status: 0; 3 if a file is no schema or mentions one that is not there, with a line FILE:LINE:COLUMN: WHAT; 4 if a file\n"
+    "cannot be read or a device failed; 5 for wrong words; 130 after Ctrl-C; 141 if the output is a closed pipe.\n";
 
 struct options {
     const char *schema;

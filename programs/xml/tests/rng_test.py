@@ -322,6 +322,7 @@ class Files(InRng):
         self.assertEqual(self.convert("-o")[2], 5)
         self.assertEqual(self.convert("--none", "x.rng")[2], 5)
         self.assertRegex(self.convert("--help")[0], r"^usage: rng2rnc ")
+        self.assertRegex(self.convert("--help")[0], r"3 if a file is no schema or mentions one that is not there, .*; 4 if a file\scannot be read ")
         self.assertRegex(self.convert("--version")[0], r"^rng2rnc \d+\.\d+\.\d+\n$")
         self.assertEqual(self.convert("none.rng"), ("", "rng2rnc: cannot read file none.rng: No such file or directory\n", 4))
         self.assertEqual(self.convert("-a.rng")[2], 5)
