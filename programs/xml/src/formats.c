@@ -160,14 +160,16 @@ void add_json(struct bytes *line, const struct result *result) {
     bytes_add_text(line, "}\n");
 }
 
-/* Adds text to a command of GitHub's. `%` and line ends are escaped, and in a property `:` and `,` too. */
+/* Adds text to a command of GitHub's. `%` and line ends are escaped, and in a property `:` and `,` too. GitHub has no escape for other characters of
+ * control: they are shown as in the format text. */
 static void add_command_text(struct bytes *line, const char *text, bool is_property) {
-    for (; *text != '\0'; text++) {
-        bool is_escaped = *text == '%' || *text == '\r' || *text == '\n' || (is_property && (*text == ':' || *text == ','));
-        if (is_escaped) {
-            bytes_format(line, "%%%02X", (unsigned)*text);
-        } else {
-            bytes_add_byte(line, *text);
+    const char *escaped = is_property ? "%\r\n:," : "%\r\n";
+    while (*text != '\0') {
+        size_t length = strcspn(text, escaped);
+        add_shown(line, text, length, SIZE_MAX);
+        text += length;
+        if (*text != '\0') {
+            bytes_format(line, "%%%02X", (unsigned)*text++);
         }
     }
 }

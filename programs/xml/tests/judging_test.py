@@ -516,6 +516,8 @@ class Formats(InFolder):
         self.assertEqual(self.judge("--format", "github", "s.rnc", "bad.xml", "a,b:c.xml", "good.xml"), (
             "::error file=bad.xml,line=3,col=3,title=invalid::invalid: <c> is not allowed here; expected the end of <a>\n"
             "::error file=a%2Cb%3Ac.xml,line=2,col=1,title=malformed::malformed XML: mismatched tag: </b> where <a> is open\n", 2))
+        self.assertEqual(self.judge("--format", "github", "s.rnc", "a\t\x1b[1m\x7f\n\r%,:\x9b.xml"), (
+            "::error file=a\\t\\x1b[1m\\x7f%0A%0D%25%2C%3A\\x9b.xml,title=failed::No such file or directory\n", 4))
 
     def test_notes(self):
         """What was not read is told in each format; as text it is for people, on standard error."""
@@ -554,6 +556,8 @@ class Formats(InFolder):
                     self.assertEqual(found["file"], name)
                     self.assertEqual(found.get("name", ""), f"x{strange}" if "name" in found else "")
                     json.dumps(found, ensure_ascii=False).encode("utf-8")
+                elif form == "github":
+                    self.assertEqual((out.count("::"), len(out.splitlines())), (2, 1))
                 elif form == "text":
                     self.assertEqual([len(each.splitlines()) for each in (out, errors) if each], [1] * (1 + (name == "e.xml")))
                 elif form == "sarif":
