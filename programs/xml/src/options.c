@@ -397,6 +397,9 @@ static bool is_sound(struct options *options) {
     if (options->is_quiet && options->reports_all) {
         return is_wrong(options, "%s", "--quiet does not go together with --all and --verbose");
     }
+    if (options->prints_schema && (options->format == FORMAT_JSON || options->format == FORMAT_SARIF)) {
+        return is_wrong(options, "%s", "--print-schema does not go together with --format json and sarif");
+    }
     return true;
 }
 

@@ -542,6 +542,10 @@ class Formats(InFolder):
         self.assertEqual((found["verdict"], found["line"], found["message"], len(found["notes"])), ("outside", 1, words, 1))
         self.assertNotIn("at", found)
 
+    def test_no_schema_in_them(self):
+        for form, status in (("json", 5), ("sarif", 5), ("github", 0), ("text", 0)):
+            self.assertEqual(self.judge("--print-schema", "--format", form, "s.rnc")[1], status, form)
+
     def test_a_line_stays_a_line(self):
         """No reader of lines divides what is printed for a document, and JSON is UTF-8 without halves of characters."""
         strange = "\u2028\u2029\x85\x7f\u009f\u20ac"
