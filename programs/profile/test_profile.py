@@ -428,6 +428,9 @@ class Profile(InFolder):
         self.assertEqual(self.profile("--write", "copy", "s.rnc")[0].splitlines()[0],
                          "b.rnc:1:1: the datatype xsd:language is not served; the copy has xsd:NMTOKEN, and accepts more and less")
 
+    def test_a_fault_of_the_words_is_one_line(self):
+        self.assertEqual(self.profile("--a\n\x1b\u2028b", "s.rnc")[1].splitlines()[-1], "rncv-profile: error: unrecognized arguments: --a\\n\\x1b\\u2028b")
+
     def test_examples_of_the_repository(self):
         for folder in sorted(path for path in (TOP / "examples").iterdir() if path.name != "broken"):
             with self.subTest(folder.name):

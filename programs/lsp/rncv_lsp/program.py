@@ -21,11 +21,16 @@ Protocol on its standard streams, and reads no files except schemas. The variabl
 editors."""
 
 
+def one_line(text: str) -> str:
+    """The text, with an escape for each character that would break a line or change a terminal."""
+    return "".join(character if character.isprintable() else repr(character)[1:-1] for character in text)
+
+
 def failed(why: str) -> int:
     """Prints why the server ends, if there is a standard error, and returns the exit status."""
     if sys.stderr is not None:
         try:
-            print(f"rncv-lsp: {why}", file=sys.stderr, flush=True)
+            print(f"rncv-lsp: {one_line(why)}", file=sys.stderr, flush=True)
         except OSError:
             pass
     return 1
@@ -47,7 +52,7 @@ class Parser(argparse.ArgumentParser):
     def error(self, message: str) -> NoReturn:
         if sys.stderr is None:
             self.exit(2)  # argparse would write to standard output
-        super().error(message)
+        super().error(one_line(message))
 
 
 class PrintVersion(argparse.Action):

@@ -21,6 +21,10 @@ class Ends(WithServer):
             self.assertEqual(run.returncode, status)
             self.assertIn(shown, run.stdout)
 
+    def test_a_fault_of_the_words_is_one_line(self):
+        run = subprocess.run([sys.executable, str(SERVER), "--a\n\x1b\u2028b"], capture_output=True, text=True, timeout=120, check=False)
+        self.assertEqual(run.stderr.splitlines()[-1], "rncv-lsp: error: unrecognized arguments: --a\\n\\x1b\\u2028b")
+
     def test_a_copy_without_the_repository(self):
         shutil.copytree(SERVER.parent, self.folder / "programs/lsp")
         run = subprocess.run([sys.executable, str(self.folder / "programs/lsp/rncv-lsp")], input=b"", capture_output=True, timeout=120, check=False)

@@ -17,7 +17,7 @@ class Words(argparse.ArgumentParser):
     def error(self, message):
         if sys.stderr is None:
             self.exit(2)  # argparse would write to standard output
-        super().error(message)
+        super().error(message.translate(SHOWN))
 
 
 def line_bytes(text):
