@@ -1142,13 +1142,17 @@ static xmlEntityPtr give_parameter(void *context, const xmlChar *name) {
     return declarations_parameter(&reader->declarations, name);
 }
 
-/* Where an error is: at the tag that does not match, at the reference to the entity in whose text it is, or where libxml2 is. */
+/* Where an error is: at the tag that does not match, at the `]]>` that libxml2 has found behind the place where it is, at the reference to the entity in whose
+ * text it is, or where libxml2 is. */
 static struct place error_place(struct reader *reader, const parser_error *error) {
     struct feed *feed = &reader->feed;
     if (!feed_is_read(&reader->feed)) {
         return declarations_place(&reader->declarations);
     }
     uint64_t offset = feed_offset(feed);
+    if (error->code == XML_ERR_MISPLACED_CDATA_END) {
+        offset = feed_first(feed, offset, "]]>");
+    }
     return feed_place(feed, error->code == XML_ERR_TAG_NAME_MISMATCH ? feed_last(feed, offset, "</") : offset);
 }
 

@@ -82,6 +82,15 @@ uint64_t feed_last(const struct feed *feed, uint64_t end, const char *text) {
     return is_long ? feed->long_at : end;
 }
 
+uint64_t feed_first(const struct feed *feed, uint64_t begin, const char *text) {
+    for (uint64_t at = begin; at < end_of(feed); at++) {
+        if (is_at(feed, at, text)) {
+            return at;
+        }
+    }
+    return begin;
+}
+
 /* How many of eight bytes begin a character. */
 static unsigned beginnings_of(uint64_t word) {
     uint64_t continued = word >> 7 & ~(word >> 6) & UINT64_C(0x0101010101010101);

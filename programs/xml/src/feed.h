@@ -118,6 +118,9 @@ static inline char feed_byte(const struct feed *feed, uint64_t offset) {
 /* The last offset before `end`, and not before what is kept, at which the text is; `end` if there is none. */
 uint64_t feed_last(const struct feed *feed, uint64_t end, const char *text);
 
+/* The first offset from `begin` on at which the text is; `begin` if there is none. */
+uint64_t feed_first(const struct feed *feed, uint64_t begin, const char *text);
+
 /* The place of an offset. Offsets before the last one that was asked for have its place. */
 struct place feed_place(struct feed *feed, uint64_t offset);
 

@@ -116,6 +116,16 @@ class Lines(InFolder):
             "d.xml:2:1: malformed P11: the prefix 'p' is not declared (NS 5), see docs/use/CLAUSES.md\n", 2))
         self.assertEqual(self.line(SCHEMA, '<a x="1">\n<c/></b>'), ("d.xml:2:5: malformed XML: mismatched tag: </b> where <a> is open\n", 2))
 
+    def test_the_end_of_a_section_in_text(self):
+        """libxml2 tells of it where the text begins, or a part of it."""
+        for character in ("x", " x", "] ", "\u3042", "x\U00010000"):
+            for count in (1, 30, 300, *range(3_985, 4_005, 3), 70_000):
+                text = character * (count // len(character.encode()) + 1)
+                for before in (f"<a>{text}", f"<a>\n<b/>{text}", f"<a>\n&#65;{text}"):
+                    column = len(before) - before.rfind("\n")
+                    self.assert_same(self.line(SCHEMA, f"{before}]]>{text}</a>"), (
+                        f"d.xml:{before.count(chr(10)) + 1}:{column}: malformed XML: Sequence ']]>' not allowed in content\n", 2), before[:20])
+
     def test_clauses_in_the_words_of_xml(self):
         for document, reported in (
                 ("<p:a:b/>", "P6: the name of the element 'p:a:b' is no QName (NS 4)"),
