@@ -382,13 +382,24 @@ static bool is_element(struct span text, size_t at) {
     return text.length - at >= strlen(of_element) && memcmp(text.data + at, of_element, strlen(of_element)) == 0;
 }
 
+/* The offset behind a literal that begins at `at`; `at` if none does. */
+static size_t behind_literal(struct span text, size_t at) {
+    char quote = text.data[at];
+    const char *end = quote == '"' || quote == '\'' ? memchr(text.data + at + 1, quote, text.length - at - 1) : NULL;
+    return end == NULL ? at : (size_t)(end - text.data) + 1;
+}
+
+/* Literals are passed over, but not behind a conditional section, since one that is ignored may have a single quote. */
 bool has_too_many_choices(struct span text, size_t most) {
     size_t bars = 0; /* there is one more choice than bars */
     bool counts = true;
+    bool has_literals = true;
     for (size_t at = 0; at < text.length && bars < most;) {
-        size_t behind = text.data[at] == '<' ? skipped(text, at) : at;
-        counts = text.data[at] == '>' || (counts && !is_element(text, at));
-        bars = text.data[at] == '>' ? 0 : bars + (counts && text.data[at] == '|' && behind == at);
+        char byte = text.data[at];
+        size_t behind = byte == '<' ? skipped(text, at) : has_literals ? behind_literal(text, at) : at;
+        has_literals = has_literals && (byte != '<' || behind > at || !span_begins(span_from(text, at), "<!["));
+        counts = byte == '>' || (counts && !is_element(text, at));
+        bars = byte == '>' ? 0 : bars + (counts && byte == '|');
         at = behind > at ? behind : at + 1;
     }
     return bars >= most;
@@ -467,11 +478,21 @@ static void check_tag(struct feed *feed, uint64_t markup) {
     }
 }
 
+/* Whether bars at this place are not between choices that are compared. */
+static bool has_other_bars(const struct feed *feed, uint64_t markup) {
+    static const char *const kinds[] = {"<!--", "<?", of_element, "<!NOTATION"};
+    for (size_t kind = 0; kind < sizeof kinds / sizeof *kinds; kind++) {
+        if (is_at(feed, markup, kinds[kind])) {
+            return true;
+        }
+    }
+    return feed->rest_at > 0 && markup == feed->rest_at; /* the rest of a declaration of an element */
+}
+
 /* Refuses a declaration with too many choices, before all of it has come. */
 static void check_choices(struct feed *feed, uint64_t markup) {
     uint64_t given = feed->begin + feed->given;
-    bool is_of_element = is_at(feed, markup, of_element) || (feed->rest_at > 0 && markup == feed->rest_at);
-    if (feed->parser->instate != XML_PARSER_DTD || is_at(feed, markup, "<!--") || is_at(feed, markup, "<?") || is_of_element) {
+    if (feed->parser->instate != XML_PARSER_DTD || has_other_bars(feed, markup)) {
         return;
     }
     if (feed->choices_begin != feed->next) {

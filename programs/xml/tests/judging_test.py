@@ -291,6 +291,15 @@ class Lines(InFolder):
             self.assertRegex(line, rf"^d\.xml:1:\d+: over a limit of this program: {what} \(--max-attributes{option}\)\n$")
             self.assertEqual(status, 2)
             self.assertEqual(self.judge("--max-attributes", "10001", "t.rnc", "d.xml"), ("", 0), what)
+        bars = "|" * 10_001
+        for entity in (f'<!ATTLIST a x CDATA "{bars}">', f'<!ENTITY e "{bars}">', f'<!NOTATION n SYSTEM "{bars}">', f'<!-- " --><!ENTITY e "&#39;"><!ENTITY f "{bars}">'):
+            self.write("d.xml", f"<!DOCTYPE a [<!ENTITY % p '{entity}'>%p;]><a/>")
+            self.assert_same(self.judge("t.rnc", "d.xml"), ("", 0), entity[:20])
+        self.write("d.xml", f"<!DOCTYPE a [<!NOTATION n SYSTEM '{bars}'{' ' * 9_000}>]><a/>")
+        self.assertEqual(self.judge("t.rnc", "d.xml"), ("", 0))
+        for front in ("&#39;", '<!-- " -->', '<?a "?>', '<!ENTITY e "&#39;">', '<![IGNORE[ " ]]>', '<!ATTLIST a y CDATA "&#39;" z CDATA "'):
+            self.write("d.xml", f"<!DOCTYPE a [<!ENTITY % p '{front}<!ATTLIST a x ({choices}) #IMPLIED>'>%p;]><a/>")
+            self.assertIn("more than 10,000 choices", self.judge("t.rnc", "d.xml")[0], front)
         self.write("d.xml", "<!DOCTYPE a [\n<!ATTLIST a x (p|q) 'p'>]><a/>")
         self.assertEqual(self.judge("--max-attributes", "1", "t.rnc", "d.xml"), (
             "d.xml:2:1: over a limit of this program: a declaration of attributes has more than 1 choices (--max-attributes)\n", 2))
