@@ -38,6 +38,7 @@ struct streams program_begins(void) {
     }
     set_signal(SIGINT, interrupted);
     set_signal(SIGPIPE, SIG_IGN);
+    set_signal(SIGXFSZ, SIG_IGN); /* a file that gets too large is an error of the write */
     return streams;
 }
 

@@ -333,6 +333,7 @@ class Files(InRng):
         self.assertEqual(self.convert("-o", "none/x", "x.rng"), ("", "rng2rnc: none/x: No such file or directory\n", 4))
         if os.path.exists("/dev/full"):
             self.assertEqual(self.shell("rng2rnc x.rng > /dev/full"), ("rng2rnc: No space left on device\n", 4))
+        self.assertEqual(self.shell("ulimit -f 0; rng2rnc -o copy x.rng"), ("rng2rnc: copy/x.rnc: File too large\n", 4))
 
 
 class Catalogs(InRng):
