@@ -1,6 +1,5 @@
 """Reads the files of a schema and the files that they mention, compares them with the profile, and writes copies. Nothing here is proved."""
 import os
-import pathlib
 import re
 import urllib.parse
 
@@ -9,6 +8,7 @@ from profile_reader import Edit, Finding, Reader, Traits
 from profile_types import BOTH, LESS, MORE, SAME
 
 SIZE, COUNT = 1_048_576, 64
+MOST_BYTES = 16_777_216  # of a file that is read at all: a device may have no end
 MARK = re.compile(r"^# rncv-profile: [0-9]+ (?:datatypes?|ID-types?) (?:loosened|tightened|marked), see ", re.M)
 UNSURE = "the same if they were ISO 8859-1"
 
@@ -88,6 +88,15 @@ def quoted(name):
     return next((quote + name + quote for quote in ('"', "'", '"""', "'''") if quote not in name), f'"{name}"')
 
 
+def content(path):
+    """The bytes of a file."""
+    with open(path, "rb") as file:
+        data = file.read(MOST_BYTES + 1)
+    if len(data) > MOST_BYTES:
+        raise ValueError(f"it has more than {MOST_BYTES:,} bytes")
+    return data
+
+
 def load(schemas):
     """The files by path, in the order of their first mention, and a line for each file that cannot be read."""
     files, missing = {}, []
@@ -99,7 +108,7 @@ def load(schemas):
             continue
         asked.add(path)
         try:
-            file = files[path] = SchemaFile(path, pathlib.Path(path).read_bytes())
+            file = files[path] = SchemaFile(path, content(path))
         except (OSError, ValueError) as fault:
             missing.append(f"{place}: cannot read {path!r}: {getattr(fault, 'strerror', fault)}")
             continue

@@ -346,7 +346,13 @@ class Profile(InFolder):
         self.write("s.rnc", b'\nexternal "none.rnc"')
         self.assertEqual(self.profile("s.rnc"), ("", "s.rnc:2:10: cannot read 'none.rnc': No such file or directory\n", 4))
         self.assertEqual(self.profile("none.rnc")[1:], ("none.rnc: cannot read 'none.rnc': No such file or directory\n", 4))
+        self.assertEqual(self.profile("--write", "s.rnc/x", "s.rnc")[1].splitlines()[-1], "rncv-profile: Not a directory: s.rnc/x")
         self.assertEqual(self.profile()[2], 4)
+
+    def test_a_file_without_an_end(self):
+        if not pathlib.Path("/dev/zero").exists():
+            self.skipTest("there is no /dev/zero")
+        self.assertEqual(self.profile("/dev/zero"), ("", "/dev/zero: cannot read '/dev/zero': it has more than 16,777,216 bytes\n", 4))
 
     def test_broken_utf_16(self):
         self.write("s.rnc", b"\xff\xfe" + "element a { empty }#".encode("utf-16-le") + b"\0\xd8")
