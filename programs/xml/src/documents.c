@@ -157,7 +157,7 @@ static bool is_wanted(const struct options *options, const char *name) {
 }
 
 /* Looks at the next name in the innermost folder. A link to a folder is not followed: it may lead in a circle. What is neither a file nor a link to one,
- * as a pipe, is no document: to open it may take for ever. False: it gives no document. */
+ * as a pipe, is no document: to open it may take for ever. What cannot be looked at may be a folder, unless it is gone. False: it gives no document. */
 static bool next_in_folder(struct documents *documents, struct document *document) {
     struct names *names = documents->folders[documents->depth - 1];
     struct stat found;
@@ -180,6 +180,9 @@ static bool next_in_folder(struct documents *documents, struct document *documen
     bool is_there = lstat(document->name, &found) == 0;
     if (is_there && S_ISDIR(found.st_mode)) {
         return enter(documents, document->name, document);
+    }
+    if (!is_there && errno != ENOENT) {
+        return fails(document, strerror(errno));
     }
     if (!is_wanted(documents->options, name)) {
         return false;

@@ -480,6 +480,19 @@ class Batches(InFolder):
             "top/a/e.txt: valid\ntop/f.XML: valid\ngood.xml: valid\n", 0))
         self.assertEqual(self.judge("s.rnc", "top"), ("top: it is a folder: --recursive judges the documents in folders\n", 4))
 
+    def test_a_folder_with_a_path_that_is_too_long(self):
+        self.write("top/good.xml", '<a x="1"/>')
+        folder = os.open(self.folder / "top", os.O_RDONLY)
+        for _ in range(50):
+            os.mkdir("d" * 100, dir_fd=folder)
+            within = os.open("d" * 100, os.O_RDONLY, dir_fd=folder)
+            os.close(folder)
+            folder = within
+        os.close(folder)
+        out, status = self.judge("--all", "-r", "s.rnc", "top")
+        self.assertRegex(out, r"^top(/d{100})+: File name too long\ntop/good.xml: valid\n$")
+        self.assertEqual(status, 4)
+
     def test_names_from_a_file(self):
         self.write("with blank.xml", '<a x="1"/>')
         wanted = "good.xml: valid\nwith blank.xml: valid\n", 0
