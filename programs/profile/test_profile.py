@@ -349,6 +349,12 @@ class Profile(InFolder):
         self.assertEqual(self.profile("--write", "s.rnc/x", "s.rnc")[1].splitlines()[-1], "rncv-profile: Not a directory: s.rnc/x")
         self.assertEqual(self.profile()[2], 4)
 
+    def test_an_interrupt_while_it_begins(self):
+        self.write("program_ends.py", b"raise KeyboardInterrupt")
+        run = subprocess.run([HERE / "rncv-profile", "s.rnc"], cwd=self.folder, capture_output=True, timeout=60, check=False,
+                             env={**os.environ, "PYTHONPATH": str(self.folder)})
+        self.assertEqual((run.returncode, run.stderr), (130, b""))
+
     def test_a_file_without_an_end(self):
         if not pathlib.Path("/dev/zero").exists():
             self.skipTest("there is no /dev/zero")

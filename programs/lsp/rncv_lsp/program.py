@@ -98,6 +98,8 @@ def main() -> None:
     except ImportError as error:
         print(f"rncv-lsp: {error}: it needs the folder `programs` around it, as in the repository", file=sys.stderr)
         sys.exit(2)
+    except KeyboardInterrupt:
+        sys.exit(130)
     if sys.stdin is None or sys.stdout is None:
         sys.exit(failed("a standard stream is closed"))
     source, sink = sys.stdin.buffer, sys.stdout.buffer

@@ -30,6 +30,12 @@ class Ends(WithServer):
         run = subprocess.run([sys.executable, str(self.folder / "programs/lsp/rncv-lsp")], input=b"", capture_output=True, timeout=120, check=False)
         self.assertEqual((run.returncode, run.stderr.count(b"\n")), (2, 1))
 
+    def test_an_interrupt_while_it_begins(self):
+        self.write("rncv.py", "raise KeyboardInterrupt")
+        run = subprocess.run([sys.executable, str(SERVER)], input=b"", capture_output=True, timeout=120, check=False,
+                             env={**os.environ, "PYTHONPATH": str(self.folder)})
+        self.assertEqual((run.returncode, run.stderr), (130, b""))
+
     def test_shutdown_and_exit(self):
         self.assertIsNone(self.client.request("shutdown")["result"])
         self.assertEqual(self.client.request("shutdown")["error"]["code"], -32600)
