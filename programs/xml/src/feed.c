@@ -391,7 +391,7 @@ static size_t behind_literal(struct span text, size_t at) {
 
 /* Literals are passed over, but not behind a conditional section, since one that is ignored may have a single quote. */
 bool has_too_many_choices(struct span text, size_t most) {
-    size_t bars = 0; /* there is one more choice than bars */
+    size_t bars = 0; /* of a list of choices, which has one more of those */
     bool counts = true;
     bool has_literals = true;
     for (size_t at = 0; at < text.length && bars < most;) {
@@ -399,7 +399,7 @@ bool has_too_many_choices(struct span text, size_t most) {
         size_t behind = byte == '<' ? skipped(text, at) : has_literals ? behind_literal(text, at) : at;
         has_literals = has_literals && (byte != '<' || behind > at || !span_begins(span_from(text, at), "<!["));
         counts = byte == '>' || (counts && !is_element(text, at));
-        bars = byte == '>' ? 0 : bars + (counts && byte == '|');
+        bars = byte == '>' || byte == ')' ? 0 : bars + (counts && byte == '|');
         at = behind > at ? behind : at + 1;
     }
     return bars >= most;

@@ -292,7 +292,9 @@ class Lines(InFolder):
             self.assertEqual(status, 2)
             self.assertEqual(self.judge("--max-attributes", "10001", "t.rnc", "d.xml"), ("", 0), what)
         bars = "|" * 10_001
-        for entity in (f'<!ATTLIST a x CDATA "{bars}">', f'<!ENTITY e "{bars}">', f'<!NOTATION n SYSTEM "{bars}">', f'<!-- " --><!ENTITY e "&#39;"><!ENTITY f "{bars}">'):
+        lists = " ".join(f"x{number} (p|q|r) #IMPLIED" for number in range(5_001))
+        for entity in (f'<!ATTLIST a x CDATA "{bars}">', f'<!ENTITY e "{bars}">', f'<!NOTATION n SYSTEM "{bars}">', f"<!ATTLIST a {lists}>",
+                       f'<!-- " --><!ENTITY e "&#39;"><!ENTITY f "{bars}">'):
             self.write("d.xml", f"<!DOCTYPE a [<!ENTITY % p '{entity}'>%p;]><a/>")
             self.assert_same(self.judge("t.rnc", "d.xml"), ("", 0), entity[:20])
         self.write("d.xml", f"<!DOCTYPE a [<!NOTATION n SYSTEM '{bars}'{' ' * 9_000}>]><a/>")
