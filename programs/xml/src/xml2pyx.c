@@ -6,6 +6,7 @@
 #include <fcntl.h>
 #include <inttypes.h>
 #include <string.h>
+#include <sys/stat.h>
 #include <unistd.h>
 
 static const char usage[] = "usage: xml2pyx [--dtd] [--lines FILE] DOCUMENT.xml";
@@ -120,14 +121,35 @@ static int report_fault(const char *document, struct fault *fault) {
     return is_document && is_told ? STATUS_MALFORMED : STATUS_FAILED;
 }
 
+/* Whether the file of the places is that of the document. */
+static bool is_document(const struct options *options) {
+    struct stat document;
+    struct stat lines;
+    bool is_input = strcmp(options->document, "-") == 0;
+    bool is_there = (is_input ? fstat(0, &document) : stat(options->document, &document)) == 0 && stat(options->lines, &lines) == 0;
+    return is_there && S_ISREG(lines.st_mode) && lines.st_dev == document.st_dev && lines.st_ino == document.st_ino;
+}
+
+/* Opens the file of the places; -1: the fault says why not. */
+static int open_lines(const struct options *options, struct fault *fault) {
+    if (is_document(options)) {
+        fault_set(fault, FAULT_DEVICE, (struct place){0, 0}, "the places would replace the document");
+        return -1;
+    }
+    int file = open(options->lines, O_WRONLY | O_CREAT | O_TRUNC | O_CLOEXEC | O_NOCTTY, 0666);
+    if (file < 0) {
+        fault_set(fault, FAULT_DEVICE, (struct place){0, 0}, "%s", strerror(errno));
+    }
+    return file;
+}
+
 static int run(const struct options *options, struct streams streams) {
     struct writing writing = {options->document, {"xml2pyx", 1, streams.output_is_closed, NO_BYTES}, {"xml2pyx", -1, false, NO_BYTES}, false};
     struct fault fault = NO_FAULT;
     struct source source;
     if (options->lines != NULL) {
-        writing.lines.file = open(options->lines, O_WRONLY | O_CREAT | O_TRUNC | O_CLOEXEC | O_NOCTTY, 0666);
+        writing.lines.file = open_lines(options, &fault);
         if (writing.lines.file < 0) {
-            fault_set(&fault, FAULT_DEVICE, (struct place){0, 0}, "%s", strerror(errno));
             int status = report_fault(options->lines, &fault);
             fault_free(&fault);
             return status;

@@ -683,6 +683,13 @@ class Programs(InFolder):
         self.assertEqual(self.run_in(XML2PYX, ".")[1:], ("xml2pyx: Is a directory: .\n", 4))
         self.assertEqual(self.run_in(XML2PYX, "--", "good.xml")[2], 0)
 
+    def test_places_do_not_replace_the_document(self):
+        self.write("d.xml", "<a/>")
+        os.link(self.folder / "d.xml", self.folder / "e.xml")
+        for program in (XML2PYX, HERE / "converter/xml2pyx"):
+            self.assertEqual(self.run_in(program, "--lines", "e.xml", "d.xml"), ("", "xml2pyx: the places would replace the document: e.xml\n", 4))
+            self.assertEqual((self.folder / "d.xml").read_text(), "<a/>")
+
     def test_names_stay_on_their_line(self):
         self.write("-a\n\u2028\x1b \u00e9.xml", "<a>")
         self.assertEqual(self.run_in(XML2PYX, "./-a\n\u2028\x1b \u00e9.xml")[1:], (
