@@ -888,7 +888,10 @@ static struct position instruction_position(struct reader *reader) {
         while (blanks_of((char[]){feed_byte(feed, begin)}, 1) == 1) {
             begin++;
         }
-        begin = feed_byte(feed, begin + 1) == '?' ? begin : feed_last(feed, end, "<?");
+        if (feed_byte(feed, begin + 1) != '?') { /* the end of a declaration or a reference is before it */
+            uint64_t markup = feed_markup(feed);
+            begin = feed_byte(feed, markup + 1) == '?' ? markup : feed_last(feed, end, "<?");
+        }
         feed_move(feed, end);
     }
     return (struct position){begin, 0};

@@ -683,6 +683,17 @@ class Programs(InFolder):
         self.assertEqual(self.run_in(XML2PYX, ".")[1:], ("xml2pyx: Is a directory: .\n", 4))
         self.assertEqual(self.run_in(XML2PYX, "--", "good.xml")[2], 0)
 
+    def test_the_place_of_an_instruction_with_the_beginning_of_another(self):
+        for before in ("<!ENTITY e 'x'>", "<!ELEMENT a ANY>\n", "<!ATTLIST a x CDATA 'y'> ", "<!NOTATION n SYSTEM 'n'>", "<!-- -->", "<!ENTITY % p ''>%p;",
+                       "<?b?>", "", "<!ENTITY % p '<!ELEMENT a ANY>'>%p;\n%p;"):
+            for closed in ("", "]>\n", "]><a>", "]><a>x"):
+                end = "]><a/>" if closed == "" else "</a>" if "<a>" in closed else "<a/>"
+                front = f"<!DOCTYPE a [{before}{closed}"
+                self.write("d.xml", f"{front}<?x y\n<?p z\n\n?>{end}")
+                out = self.run_in(XML2PYX, "--lines", "places", "d.xml")[0]
+                places = dict(zip(out.splitlines(), (self.folder / "places").read_text().splitlines()))
+                self.assertEqual(places["?x y\\n<?p z\\n\\n"], f"{front.count(chr(10)) + 1} {len(front) - front.rfind(chr(10))}", front)
+
     def test_places_do_not_replace_the_document(self):
         self.write("d.xml", "<a/>")
         os.link(self.folder / "d.xml", self.folder / "e.xml")
