@@ -11,7 +11,8 @@
 #include <string.h>
 
 enum {
-    REFERENCE_COST = 256 /* of a reference, in bytes */
+    REFERENCE_COST = 256, /* of a reference, in bytes */
+    MOST_KNOWN = 64       /* bytes: no namespace that libxml2 knows has more */
 };
 
 #ifndef MOST_GIVEN
@@ -182,16 +183,18 @@ static bool has_given_enough(struct declarations *declarations, const xmlEntity 
         declarations->given = 0;
     }
     declarations->given += (uint64_t)entity->length;
-    bool is_short = entity->length <= LEFT_OUT_MARK && memchr(entity->content, '&', (size_t)entity->length) == NULL;
+    bool is_short = entity->length <= MOST_KNOWN && memchr(entity->content, '&', (size_t)entity->length) == NULL;
     return declarations->given > MOST_GIVEN && !is_short;
 }
 
-/* An entity with a mark in the place of what the entity gives in a value. The entity itself: it may not be there. */
+/* An entity with a mark in the place of what the entity gives in a value. The entity itself: it may not be there, or gives little. libxml2 gets that, since a
+ * namespace may be one that it knows, or no text. */
 static xmlEntityPtr left_out(struct declarations *declarations, xmlEntityPtr entity) {
     struct shortening *shortening = &declarations->feed->shortening;
     struct bytes text = NO_BYTES;
     bool is_lasting = declarations->feed->parser->inSubset != 0;
-    if (!add_value(declarations, entity, &text)) {
+    bool is_long = add_value(declarations, entity, &text) && text.length > MOST_KNOWN;
+    if (!is_long) {
         bytes_free(&text);
         return entity;
     }

@@ -171,6 +171,13 @@ class Variant(InFolder):
         self.assertFalse(self.assert_equal(document("|", "", "#PCDATA", *many), "no star"))
         self.assertFalse(self.assert_equal(document("|", "*", "#PCDATA", *many, "a?"), "a mark"))
 
+    def test_namespaces_that_libxml2_knows(self):
+        """libxml2 gets what entities give if that is short, however much they have given."""
+        for text in ("", "http://www.w3.org/XML/1998/namespace", "http://www.w3.org/2000/xmlns/", "u"):
+            entities = f"<!ENTITY big '{'x' * 6_000}'><!ENTITY none ''><!ENTITY e '&none;{text}&none;'>"
+            for name in ("xmlns:a", "xmlns", "xmlns:xml"):
+                self.assert_equal(f"<!DOCTYPE r [{entities}]><r b='&big;' {name}='&e;'/>", (name, text))
+
     def test_a_reference_before_a_long_name(self):
         name = "a" * 30_000
         self.assertTrue(self.assert_equal(f"<!DOCTYPE r [<!ENTITY {name} 'v'>]><{name}>&{name};</{name}>", "end"))
