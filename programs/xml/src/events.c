@@ -332,35 +332,57 @@ static bool unmark(const struct reader *reader, struct span value, const char *s
     return has_blanks || is_marked;
 }
 
-/* The whole URI of a namespace. */
-static const xmlChar *whole_uri(struct reader *reader, const xmlChar *uri) {
-    struct shortening *shortening = &reader->feed.shortening;
-    if (uri == NULL || (shortening->uris.count == 0 && !has_left_out(&shortening->left))) {
-        return uri;
+/* Adds a namespace of which libxml2 has a part or marks. False: it has the namespace as it is. */
+static bool add_uri(struct reader *reader, struct span uri, struct bytes *to) {
+    const struct left_out *left = &reader->feed.shortening.left;
+    struct bytes whole = NO_BYTES;
+    bool is_part = has_left_out(left) && left_out_is_in(left, uri);
+    if (is_part) {
+        left_out_add(left, uri, &whole);
+        uri = (struct span){whole.data, whole.length};
     }
-    const xmlChar *whole = (const xmlChar *)long_uris_whole(&shortening->uris, &shortening->left, (const char *)uri);
-    reader->has_marked_uri |= whole != uri;
-    if (whole == NULL) {
-        out_of_memory(reader);
+    bool is_marked = unmark(reader, uri, reader->feed.spelling, to);
+    if (is_part && !is_marked) {
+        *to = whole;
+        return true;
     }
-    return whole == NULL ? uri : whole;
+    to->failed |= whole.failed;
+    bytes_free(&whole);
+    return is_marked;
 }
 
-/* The whole URI of a namespace without marks. It stays where it is. */
-static const xmlChar *unmarked_uri(struct reader *reader, const xmlChar *uri) {
-    struct bytes text = NO_BYTES;
-    const xmlChar *whole = whole_uri(reader, uri);
-    if (!unmark(reader, span_of(whole), reader->feed.spelling, &text)) {
-        return whole;
-    }
-    reader->has_marked_uri = true;
-    const char *written = bytes_text(&text);
-    const xmlChar *found = text.failed ? NULL : xmlDictLookup(reader->feed.parser->dict, (const xmlChar *)written, -1);
-    bytes_free(&text);
-    if (found == NULL) {
+/* Keeps what is told of a namespace. Only where its text does not stay, a copy of that is looked up. */
+static struct span kept_uri(struct reader *reader, const xmlChar *uri, struct bytes *told) {
+    xmlDictPtr dictionary = reader->feed.parser->dict;
+    const xmlChar *key = xmlDictOwns(dictionary, uri) == 1 ? uri : xmlDictLookup(dictionary, uri, -1);
+    bytes_text(told);
+    const struct span *kept = key == NULL ? NULL : long_uris_put(&reader->feed.shortening.uris, key, told);
+    if (kept == NULL) {
         out_of_memory(reader);
     }
-    return found == NULL ? uri : found;
+    bytes_free(told);
+    return kept == NULL ? (struct span){"", 0} : *kept;
+}
+
+/* What is told of a namespace that is not kept. */
+static OUT_OF_LINE struct span new_uri(struct reader *reader, const xmlChar *uri) {
+    struct span span = span_of(uri);
+    struct bytes told = NO_BYTES;
+    bool is_marked = add_uri(reader, span, &told);
+    reader->has_marked_uri |= is_marked;
+    if (!is_marked && span.length < LONG_URI) {
+        return span;
+    }
+    if (!is_marked) {
+        bytes_add(&told, span.data, span.length);
+    }
+    return kept_uri(reader, uri, &told);
+}
+
+/* What is told of a namespace: the whole URI without marks. It stays where it is. */
+static struct span told_uri(struct reader *reader, const xmlChar *uri) {
+    const struct span *told = uri == NULL ? NULL : long_uris_told(&reader->feed.shortening.uris, uri);
+    return told != NULL ? *told : uri == NULL ? (struct span){"", 0} : new_uri(reader, uri);
 }
 
 /* Adds a declaration to those of the tag. */
@@ -444,7 +466,7 @@ static void add_declarations(struct reader *reader, struct start_event *start, i
     start->declaration_count = 0;
     for (int at = 0; at < count && is_good(reader); at++) {
         check_long_name(reader, namespaces[2 * at]);
-        add_declaration(reader, start, whole_name(reader, span_of(namespaces[2 * at])), span_of(unmarked_uri(reader, namespaces[2 * at + 1])));
+        add_declaration(reader, start, whole_name(reader, span_of(namespaces[2 * at])), told_uri(reader, namespaces[2 * at + 1]));
     }
     if (reader->declarations.default_count > 0) {
         add_defaults(reader, start);
@@ -462,7 +484,7 @@ static const struct event_name *name_of(struct reader *reader, const xmlChar *lo
     if (reader->names.locals[place] != NULL) {
         keep(reader); /* another name vanishes from there */
     }
-    const struct event_name *name = known_name_new(&reader->names, reader->feed.parser->dict, local, prefix, uri, unmarked_uri(reader, uri));
+    const struct event_name *name = known_name_new(&reader->names, reader->feed.parser->dict, local, prefix, uri, told_uri(reader, uri));
     check_long_name(reader, local);
     check_long_name(reader, prefix);
     return name;

@@ -10,8 +10,8 @@ static bool stays(xmlDictPtr dictionary, const xmlChar *text) {
 }
 
 const struct event_name *known_name_new(struct known_names *names, xmlDictPtr dictionary, const xmlChar *local, const xmlChar *prefix, const xmlChar *uri,
-                                        const xmlChar *told) {
-    struct event_name name = {long_names_whole(names->long_names, span_of(prefix)), long_names_whole(names->long_names, span_of(local)), span_of(told)};
+                                        struct span told) {
+    struct event_name name = {long_names_whole(names->long_names, span_of(prefix)), long_names_whole(names->long_names, span_of(local)), told};
     bool is_undeclared = name.prefix.length > 0 && name.uri.length == 0;
     if (local == NULL || is_undeclared || !stays(dictionary, local) || !stays(dictionary, prefix) || !stays(dictionary, uri)) {
         names->other = name;

@@ -28,7 +28,7 @@ struct known_names {
 /* Works the name out, and keeps it if the texts are in the dictionary, which keeps them as long as the document is read. A name whose prefix is not declared is
  * not kept. `told` is what is told of the URI. */
 const struct event_name *known_name_new(struct known_names *names, xmlDictPtr dictionary, const xmlChar *local, const xmlChar *prefix, const xmlChar *uri,
-                                        const xmlChar *told);
+                                        struct span told);
 
 /* The place for a name with this local name. */
 static inline size_t known_place(const xmlChar *local) {

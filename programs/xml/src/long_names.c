@@ -19,8 +19,9 @@ void long_names_free(struct long_names *names) {
     free(names->places);
 }
 
-static uint64_t hash_of(struct span text) {
-    uint64_t hash = text.length;
+/* The hash of a text. It begins with a secret, so that nobody can write many texts with one hash. */
+static uint64_t hash_of(const struct long_names *names, struct span text) {
+    uint64_t hash = names->secret[1] ^ text.length;
     for (size_t at = 0; at < text.length; at++) {
         hash = (hash ^ (unsigned char)text.data[at]) * UINT64_C(0x100000001B3);
     }
@@ -68,16 +69,17 @@ static void write_number(const struct long_names *names, uint32_t index, char nu
     snprintf(number, NUMBER_BYTES + 1, "%08" PRIx32 "%016" PRIx64, index, names->secret[0]);
 }
 
-bool long_names_put(struct long_names *names, struct bytes *name, char number[NUMBER_BYTES + 1]) {
-    if (name->failed || (names->count == names->capacity && !grow(names))) {
-        return false;
+/* Puts a text in if it is new. Returns its place in the table; NULL: out of memory. */
+static const uint32_t *put(struct long_names *names, struct bytes *text) {
+    if (text->failed || (names->count == names->capacity && !grow(names))) {
+        return NULL;
     }
     if (names->count == 0) {
         choose_secret(names->secret);
     }
-    struct long_name new = {*name, hash_of((struct span){name->data, name->length})};
+    struct long_name new = {*text, hash_of(names, (struct span){text->data, text->length})};
     uint32_t *place = place_of(names, &new);
-    *name = (struct bytes)NO_BYTES;
+    *text = (struct bytes)NO_BYTES;
     if (*place == 0) {
         names->held += new.text.capacity;
         names->names[names->count++] = new;
@@ -85,8 +87,21 @@ bool long_names_put(struct long_names *names, struct bytes *name, char number[NU
     } else {
         bytes_free(&new.text);
     }
-    write_number(names, *place - 1, number);
-    return true;
+    return place;
+}
+
+bool long_names_put(struct long_names *names, struct bytes *name, char number[NUMBER_BYTES + 1]) {
+    const uint32_t *place = put(names, name);
+    if (place != NULL) {
+        write_number(names, *place - 1, number);
+    }
+    return place != NULL;
+}
+
+bool long_names_keep(struct long_names *names, struct bytes *text, struct span *kept) {
+    const uint32_t *place = put(names, text);
+    *kept = place == NULL ? (struct span){"", 0} : text_of(&names->names[*place - 1]);
+    return place != NULL;
 }
 
 size_t long_name_kept(struct span name) {

@@ -30,6 +30,9 @@ void long_names_free(struct long_names *names);
 /* Writes the number of a name, which is put in if it is new. The name's text is taken: free it no more. False: out of memory. */
 bool long_names_put(struct long_names *names, struct bytes *name, char number[NUMBER_BYTES + 1]);
 
+/* Puts a text in if it is new. It is taken too. What is kept stays where it is, and is there once. False: out of memory. */
+bool long_names_keep(struct long_names *names, struct bytes *text, struct span *kept);
+
 /* How many bytes libxml2 gets of a long name: whole characters. */
 size_t long_name_kept(struct span name);
 

@@ -2,55 +2,52 @@
 
 #include <stdlib.h>
 
-struct long_uri {
-    char *marked; /* as libxml2 has it */
-    struct bytes whole;
-};
-
 void long_uris_free(struct long_uris *uris) {
-    for (size_t at = 0; at < uris->count; at++) {
-        free(uris->uris[at].marked);
-        bytes_free(&uris->uris[at].whole);
-    }
-    free(uris->uris);
+    free(uris->places);
+    long_names_free(&uris->texts);
 }
 
-/* Makes room for one more. False: out of memory. */
-static bool has_room(struct long_uris *uris) {
-    if (uris->count < uris->capacity) {
-        return true;
+/* The place in the table for the namespace. */
+static struct long_uri *place_of(const struct long_uris *uris, const void *uri) {
+    size_t last = uris->capacity - 1;
+    size_t at = (size_t)(((uint64_t)(uintptr_t)uri * UINT64_C(0x9E3779B97F4A7C15)) >> 32) & last;
+    while (uris->places[at].uri != NULL && uris->places[at].uri != uri) {
+        at = (at + 1) & last;
     }
-    size_t wanted = uris->capacity == 0 ? 4 : 2 * uris->capacity;
-    struct long_uri *longer = realloc(uris->uris, wanted * sizeof *longer);
-    if (longer == NULL) {
+    return &uris->places[at];
+}
+
+/* Makes the table twice as large. False: out of memory. */
+static bool grow(struct long_uris *uris) {
+    struct long_uris larger = *uris;
+    larger.capacity = uris->capacity == 0 ? 8 : 2 * uris->capacity;
+    larger.places = calloc(larger.capacity, sizeof *larger.places);
+    if (larger.places == NULL) {
         return false;
     }
-    uris->uris = longer;
-    uris->capacity = wanted;
+    for (size_t at = 0; at < uris->capacity; at++) {
+        if (uris->places[at].uri != NULL) {
+            *place_of(&larger, uris->places[at].uri) = uris->places[at];
+        }
+    }
+    free(uris->places);
+    *uris = larger;
     return true;
 }
 
-/* Keeps a namespace as a whole. NULL: out of memory. */
-static const char *keep(struct long_uris *uris, const struct left_out *left, struct span uri) {
-    struct long_uri new = {has_room(uris) ? strdup(uri.data) : NULL, NO_BYTES};
-    bytes_reserve(&new.whole, left_out_length(left, uri) + 1);
-    left_out_add(left, uri, &new.whole);
-    const char *text = bytes_text(&new.whole);
-    if (new.marked == NULL || new.whole.failed) {
-        free(new.marked);
-        bytes_free(&new.whole);
-        return NULL;
-    }
-    uris->held += uri.length + new.whole.capacity;
-    uris->uris[uris->count++] = new;
-    return text;
+const struct span *long_uris_told(const struct long_uris *uris, const void *uri) {
+    const struct long_uri *place = uris->count == 0 ? NULL : place_of(uris, uri);
+    return place == NULL || place->uri == NULL ? NULL : &place->told;
 }
 
-const char *long_uris_whole(struct long_uris *uris, const struct left_out *left, const char *uri) {
-    const char *found = NULL;
-    for (size_t at = 0; at < uris->count && found == NULL; at++) {
-        found = strcmp(uris->uris[at].marked, uri) == 0 ? bytes_text(&uris->uris[at].whole) : NULL;
+const struct span *long_uris_put(struct long_uris *uris, const void *uri, struct bytes *told) {
+    struct span kept;
+    bool has_room = 2 * uris->count < uris->capacity || grow(uris);
+    if (!has_room || !long_names_keep(&uris->texts, told, &kept)) {
+        return NULL;
     }
-    struct span span = {uri, strlen(uri)};
-    return found != NULL ? found : left_out_is_in(left, span) ? keep(uris, left, span) : uri;
+    struct long_uri *place = place_of(uris, uri);
+    uris->count += place->uri == NULL;
+    *place = (struct long_uri){uri, kept};
+    return &place->told;
 }

@@ -239,6 +239,6 @@ size_t shortening_close(struct shortening *shortening, char in_place[IN_PLACE_BY
 }
 
 size_t shortening_held(const struct shortening *shortening) {
-    size_t kept = shortening->names.held + shortening->left.held + shortening->uris.held;
+    size_t kept = shortening->names.held + shortening->left.held + long_uris_held(&shortening->uris);
     return kept + shortening->text.capacity + shortening->whole.capacity;
 }

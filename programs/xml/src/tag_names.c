@@ -1,5 +1,6 @@
 #include "tag_names.h"
 
+#include "long_uris.h"
 #include "shown.h"
 
 #include <stdint.h>
@@ -14,6 +15,11 @@ static bool is_word(struct span span, const char *word) {
 
 static bool is_equal(struct span one, struct span other) {
     return one.length == other.length && memcmp(one.data, other.data, one.length) == 0;
+}
+
+/* Whether two namespaces are one. Long ones are there once, so pointers tell them (long_uris.h). */
+static bool is_same_uri(struct span one, struct span other) {
+    return one.length == other.length && (one.data == other.data || (one.length < LONG_URI && is_equal(one, other)));
 }
 
 static void add_span(struct bytes *words, struct span span) {
@@ -117,7 +123,7 @@ static const struct event_name *double_of(const struct start_event *tag, size_t 
     const struct event_name *name = &tag->attributes[index].name;
     for (size_t at = 0; at < index; at++) {
         const struct event_name *other = &tag->attributes[at].name;
-        if (is_equal(other->local, name->local) && is_equal(other->uri, name->uri)) {
+        if (is_equal(other->local, name->local) && is_same_uri(other->uri, name->uri)) {
             return other;
         }
     }

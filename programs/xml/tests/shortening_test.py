@@ -250,6 +250,13 @@ class Whole(InFolder):
         for other, wanted in (("", "malformed"), ("v", "valid")):
             self.assertIn(wanted, self.judged(f"<r xmlns:a='{long}{other}' xmlns:b='{long}' a:c='' b:c=''><a:r/></r>")[0])
 
+    def test_a_namespace_in_two_forms(self):
+        long = "u" * 5_000
+        entities = f"<!ENTITY big '{'x' * 20_100_000}'><!ENTITY e '{long}'>"
+        for other, wanted in ((long, "malformed"), (long + "v", "valid")):
+            document = f"<!DOCTYPE r [{entities}]><r b='&big;' xmlns:p='&e;' xmlns:q='{other}' xmlns:s='&e;'><r p:a='' q:a=''/><r s:a='' q:b=''/></r>"
+            self.assertIn(wanted, self.judged(document)[0])
+
     def test_values(self):
         self.write("s.rnc", "element r { attribute a { xsd:string { pattern = 'u*vb' } } }")
         long = "u" * 34_000_000
