@@ -22,7 +22,7 @@ static bool are_too_many(struct declarations *declarations, uintptr_t count, con
 }
 
 /* Keeps a declaration of a namespace that is there by default. */
-static void keep_default(struct declarations *declarations, const xmlChar *element, const xmlChar *name, const xmlChar *value) {
+static void keep_default(struct declarations *declarations, const xmlChar *element, const xmlChar *name, const xmlChar *value, bool has_tokens) {
     if (are_too_many(declarations, declarations->default_count + 1, "more than %s declarations of namespaces by default")) {
         return;
     }
@@ -40,7 +40,13 @@ static void keep_default(struct declarations *declarations, const xmlChar *eleme
     struct bytes whole = NO_BYTES;
     struct bytes unmarked = NO_BYTES;
     enum mark_part part = MARK_NONE;
-    left_out_add(&declarations->feed->shortening.left, (struct span){(const char *)value, strlen((const char *)value)}, &whole);
+    const struct left_out *left = &declarations->feed->shortening.left;
+    const struct span given = {(const char *)value, strlen((const char *)value)};
+    if (has_tokens) {
+        left_out_add_tokens(left, given, &whole);
+    } else {
+        left_out_add(left, given, &whole);
+    }
     add_unmarked((struct span){whole.data, whole.length}, &unmarked);
     if (declarations->feed->spelling != NULL) {
         spell_controls(&unmarked, 0, declarations->feed->spelling);
@@ -105,7 +111,7 @@ static void count_default(struct declarations *declarations, const xmlChar *elem
     }
 }
 
-void declarations_attribute(struct declarations *declarations, const xmlChar *element, const xmlChar *name, const xmlChar *value) {
+void declarations_attribute(struct declarations *declarations, const xmlChar *element, const xmlChar *name, const xmlChar *value, bool has_tokens) {
     declarations_check_behind(declarations);
     declarations_check_name(declarations, element);
     declarations_check_name(declarations, name);
@@ -117,6 +123,6 @@ void declarations_attribute(struct declarations *declarations, const xmlChar *el
         count_default(declarations, element);
     }
     if (value != NULL && is_namespace) {
-        keep_default(declarations, element, name, value);
+        keep_default(declarations, element, name, value, has_tokens);
     }
 }

@@ -5,6 +5,6 @@
 #include "declarations.h"
 
 /* The handler of libxml2 for the declaration of an attribute. A value is NULL if there is none by default. */
-void declarations_attribute(struct declarations *declarations, const xmlChar *element, const xmlChar *name, const xmlChar *value);
+void declarations_attribute(struct declarations *declarations, const xmlChar *element, const xmlChar *name, const xmlChar *value, bool has_tokens);
 
 #endif

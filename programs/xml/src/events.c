@@ -332,13 +332,24 @@ static bool unmark(const struct reader *reader, struct span value, const char *s
     return has_blanks || is_marked;
 }
 
+/* Whether the blanks of an attribute's value are no part of it as they are: it is declared with another type than CDATA (XML 1.0, 3.3.3). */
+static bool is_tokenized(const struct reader *reader, const xmlChar *prefix, const xmlChar *local) {
+    xmlHashTablePtr types = reader->feed.parser->attsSpecial;
+    void *type = types == NULL ? NULL : xmlHashQLookup2(types, reader->prefix, reader->local, prefix, local);
+    return type != NULL && (intptr_t)type != XML_ATTRIBUTE_CDATA;
+}
+
 /* Adds a namespace of which libxml2 has a part or marks. False: it has the namespace as it is. */
-static bool add_uri(struct reader *reader, struct span uri, struct bytes *to) {
+static bool add_uri(const struct reader *reader, struct span uri, bool has_tokens, struct bytes *to) {
     const struct left_out *left = &reader->feed.shortening.left;
     struct bytes whole = NO_BYTES;
     bool is_part = has_left_out(left) && left_out_is_in(left, uri);
-    if (is_part) {
+    if (is_part && has_tokens) {
+        left_out_add_tokens(left, uri, &whole);
+    } else if (is_part) {
         left_out_add(left, uri, &whole);
+    }
+    if (is_part) {
         uri = (struct span){whole.data, whole.length};
     }
     bool is_marked = unmark(reader, uri, reader->feed.spelling, to);
@@ -365,10 +376,10 @@ static struct span kept_uri(struct reader *reader, const xmlChar *uri, struct by
 }
 
 /* What is told of a namespace that is not kept. */
-static OUT_OF_LINE struct span new_uri(struct reader *reader, const xmlChar *uri) {
+static OUT_OF_LINE struct span new_uri(struct reader *reader, const xmlChar *uri, bool has_tokens) {
     struct span span = span_of(uri);
     struct bytes told = NO_BYTES;
-    bool is_marked = add_uri(reader, span, &told);
+    bool is_marked = add_uri(reader, span, has_tokens, &told);
     reader->has_marked_uri |= is_marked;
     if (!is_marked && span.length < LONG_URI) {
         return span;
@@ -382,7 +393,20 @@ static OUT_OF_LINE struct span new_uri(struct reader *reader, const xmlChar *uri
 /* What is told of a namespace: the whole URI without marks. It stays where it is. */
 static struct span told_uri(struct reader *reader, const xmlChar *uri) {
     const struct span *told = uri == NULL ? NULL : long_uris_told(&reader->feed.shortening.uris, uri);
-    return told != NULL ? *told : uri == NULL ? (struct span){"", 0} : new_uri(reader, uri);
+    return told != NULL ? *told : uri == NULL ? (struct span){"", 0} : new_uri(reader, uri, false);
+}
+
+/* Takes the namespaces that a tag declares of which libxml2 has a part. Their attributes may have types. */
+static void take_parts_of_uris(struct reader *reader, int count, const xmlChar **namespaces) {
+    static const xmlChar name[] = "xmlns";
+    for (int at = 0; at < count && is_good(reader); at++) {
+        const xmlChar *prefix = namespaces[2 * at];
+        const xmlChar *uri = namespaces[2 * at + 1];
+        bool has_tokens = is_tokenized(reader, prefix == NULL ? NULL : name, prefix == NULL ? name : prefix);
+        if (uri != NULL && has_tokens && long_uris_told(&reader->feed.shortening.uris, uri) == NULL) {
+            new_uri(reader, uri, true);
+        }
+    }
 }
 
 /* Adds a declaration to those of the tag. */
@@ -521,24 +545,6 @@ static struct span unmarked(struct reader *reader, struct span value) {
     return found;
 }
 
-/* Whether the blanks of an attribute's value are no part of it as they are: it is declared with another type than CDATA (XML 1.0, 3.3.3). */
-static bool is_tokenized(const struct reader *reader, const xmlChar **attribute) {
-    xmlHashTablePtr types = reader->feed.parser->attsSpecial;
-    void *type = types == NULL ? NULL : xmlHashQLookup2(types, reader->prefix, reader->local, attribute[1], attribute[0]);
-    return type != NULL && (intptr_t)type != XML_ATTRIBUTE_CDATA;
-}
-
-/* Leaves one space between the tokens of the text behind the first bytes. */
-static void leave_one_space(struct bytes *text, size_t begin) {
-    size_t to = begin;
-    for (size_t at = begin; at < text->length; at++) {
-        if (text->data[at] != ' ' || (to > begin && text->data[to - 1] != ' ')) {
-            text->data[to++] = text->data[at];
-        }
-    }
-    text->length = to > begin && text->data[to - 1] == ' ' ? to - 1 : to;
-}
-
 /* How many bytes the values of the tag have as a whole of which libxml2 has got a part. */
 static size_t whole_length(const struct reader *reader) {
     const struct left_out *left = &reader->feed.shortening.left;
@@ -564,9 +570,10 @@ static void write_whole(struct reader *reader, const xmlChar **attributes) {
         if (!left_out_is_in(left, *value)) {
             continue;
         }
-        left_out_add(left, *value, whole);
-        if (is_tokenized(reader, attributes)) {
-            leave_one_space(whole, begin);
+        if (is_tokenized(reader, attributes[1], attributes[0])) {
+            left_out_add_tokens(left, *value, whole);
+        } else {
+            left_out_add(left, *value, whole);
         }
         *value = (struct span){whole->data + begin, whole->length - begin};
     }
@@ -708,6 +715,19 @@ static void check_names(struct reader *reader, const struct start_event *start) 
     bytes_free(&words);
 }
 
+/* Refuses a declaration of a namespace that libxml2 would refuse if it had the whole. */
+static void check_declarations(struct reader *reader, const struct start_event *start) {
+    struct bytes words = NO_BYTES;
+    if (tag_has_forbidden(start, &words)) {
+        const char *text = bytes_text(&words);
+        if (words.failed) {
+            out_of_memory(reader);
+        }
+        fault_set(reader->fault, FAULT_MALFORMED, place_of(start->position), "malformed XML: %s", text);
+    }
+    bytes_free(&words);
+}
+
 /* Counts an element that is open. */
 static void count_open(struct reader *reader) {
     reader->start.depth++;
@@ -750,6 +770,8 @@ static void hand_start(struct reader *reader, const struct start_event *start) {
     bool may_break = reader->has_bad_name || reader->has_double || reader->has_undeclared || start->declaration_count > 0;
     if (reader->sink.checks_names && may_break) {
         check_names(reader, start);
+    } else if (has_left_out(&reader->feed.shortening.left) && start->declaration_count > 0) {
+        check_declarations(reader, start);
     }
     if (is_good(reader)) {
         reader->sink.start(reader->sink.context, start);
@@ -775,6 +797,9 @@ static OUT_OF_LINE void take_any_start(void *context, const xmlChar *local, cons
     count_open(reader);
     check_width(reader, (size_t)(attribute_count - default_count) + (size_t)namespace_count);
     count_costs(reader, attribute_count, default_count, attributes);
+    if (has_left_out(&reader->feed.shortening.left)) {
+        take_parts_of_uris(reader, namespace_count, namespaces);
+    }
     add_attributes(reader, start, attribute_count, attributes);
     start->name = name_of(reader, local, prefix, uri);
     start->has_fleeting_name = start->name == &reader->names.other;
@@ -1136,7 +1161,7 @@ static void take_attribute(void *context, const xmlChar *element, const xmlChar 
     struct reader *reader = context;
     (void)kind;
     reader->feed.shortening.scan.has_types |= type != XML_ATTRIBUTE_CDATA;
-    declarations_attribute(&reader->declarations, whole_written(reader, element), whole_written(reader, name), value);
+    declarations_attribute(&reader->declarations, whole_written(reader, element), whole_written(reader, name), value, type != XML_ATTRIBUTE_CDATA);
     check_choices(reader, choices);
     reader->is_unusual = true;
     xmlFreeEnumeration(choices);

@@ -44,6 +44,9 @@ size_t left_out_length(const struct left_out *left, struct span text);
 /* Adds the text as a whole. */
 void left_out_add(const struct left_out *left, struct span text, struct bytes *to);
 
+/* Adds the text as a whole, with one space between its tokens. */
+void left_out_add_tokens(const struct left_out *left, struct span text, struct bytes *to);
+
 /* Forgets the parts of a tag or a literal. */
 void left_out_forget(struct left_out *left);
 

@@ -85,7 +85,7 @@ static const char *forbidden_why(const struct event_declaration *declaration) {
     return is_xml ? "xml has its own namespace" : "that namespace has the prefix xml";
 }
 
-static bool has_forbidden(const struct start_event *tag, struct bytes *words) {
+bool tag_has_forbidden(const struct start_event *tag, struct bytes *words) {
     for (size_t at = 0; at < tag->declaration_count; at++) {
         const struct event_declaration *declaration = &tag->declarations[at];
         const char *why = forbidden_why(declaration);
@@ -150,7 +150,7 @@ int tag_names_fault(const struct start_event *tag, bool has_bad_name, bool has_d
         bytes_add_text(words, "' is no QName (NS 4)");
         return 6;
     }
-    if (has_forbidden(tag, words) || has_undeclared(tag, words)) {
+    if (tag_has_forbidden(tag, words) || has_undeclared(tag, words)) {
         return 11;
     }
     return has_double && has_double_in(tag, words) ? 12 : 0;

@@ -178,6 +178,16 @@ class Variant(InFolder):
             for name in ("xmlns:a", "xmlns", "xmlns:xml"):
                 self.assert_equal(f"<!DOCTYPE r [{entities}]><r b='&big;' {name}='&e;'/>", (name, text))
 
+    def test_namespaces_that_have_types(self):
+        for kind in ("NMTOKENS", "CDATA", "ID"):
+            for text in ("  u   v  ", "http://www.w3.org/XML/1998/namespace", ""):
+                entities = f"<!ENTITY big '{'x' * 6_000}'><!ENTITY e '{' ' * 100}{text}{' ' * 100}'><!ENTITY t '<r/>'>"
+                for declared, tag in ((f"xmlns:a {kind} #IMPLIED", "r b='&big;' xmlns:a='&e;'"), (f"b CDATA '&big;' xmlns:a {kind} '&e;'", "r")):
+                    if "u" in text or "#" in declared:
+                        document = f"<!DOCTYPE r [{entities}<!ATTLIST r {declared}>]><{tag} a:c=''>&t;</r>"
+                        found, wanted = self.converted(self.short, document), self.converted(self.whole, document)
+                        self.assertEqual((found[0], found[3]), (wanted[0], wanted[3]), (kind, text))
+
     def test_a_reference_before_a_long_name(self):
         name = "a" * 30_000
         self.assertTrue(self.assert_equal(f"<!DOCTYPE r [<!ENTITY {name} 'v'>]><{name}>&{name};</{name}>", "end"))
