@@ -206,6 +206,15 @@ void declarations_declared(struct declarations *declarations, const xmlChar *nam
     }
 }
 
+/* The same as xmlSAX2GetEntity, without an error for an entity that a document which stands alone does not have: libxml2 may be far from the reference. */
+static xmlEntityPtr entity_named(xmlParserCtxtPtr parser, const xmlChar *name) {
+    xmlEntityPtr predefined = parser->inSubset == 0 ? xmlGetPredefinedEntity(name) : NULL;
+    if (parser->inSubset == 2) {
+        return xmlSAX2GetEntity(parser, name);
+    }
+    return predefined != NULL || parser->myDoc == NULL ? predefined : xmlGetDocEntity(parser->myDoc, name);
+}
+
 xmlEntityPtr declarations_entity_of(struct declarations *declarations, struct span name) {
     struct bytes written = NO_BYTES;
     bytes_add(&written, name.data, name.length);
@@ -213,7 +222,7 @@ xmlEntityPtr declarations_entity_of(struct declarations *declarations, struct sp
     if (written.failed) {
         declarations_out_of_memory(declarations);
     }
-    xmlEntityPtr entity = xmlSAX2GetEntity(declarations->feed->parser, (const xmlChar *)text);
+    xmlEntityPtr entity = entity_named(declarations->feed->parser, (const xmlChar *)text);
     bytes_free(&written);
     return entity;
 }

@@ -129,7 +129,7 @@ class Variant(InFolder):
 
     def converted(self, program, document):
         self.write("d.xml", document)
-        out, reported, status = self.run_in(program, "--lines", "places", "d.xml")
+        out, reported, status = self.run_in(program, "--dtd", "--lines", "places", "d.xml")
         return (out, (self.folder / "places").read_text(), "", 0) if status == 0 else ("", "", reported.splitlines()[-1][:60], status)
 
     def assert_equal(self, document, what):
@@ -187,6 +187,12 @@ class Variant(InFolder):
                         document = f"<!DOCTYPE r [{entities}<!ATTLIST r {declared}>]><{tag} a:c=''>&t;</r>"
                         found, wanted = self.converted(self.short, document), self.converted(self.whole, document)
                         self.assertEqual((found[0], found[3]), (wanted[0], wanted[3]), (kind, text))
+
+    def test_an_entity_that_a_document_alone_does_not_have(self):
+        self.write("e.dtd", "<!ENTITY e 'x'>")
+        for text in ("&e;", "&f;"):
+            document = f"<?xml version='1.0' standalone='yes'?><!DOCTYPE r SYSTEM 'e.dtd' [<!ENTITY f '&e;'>]><r a='{'x' * 30_000}{text}'/>"
+            self.assertFalse(self.assert_equal(document, text))
 
     def test_a_reference_before_a_long_name(self):
         name = "a" * 30_000
