@@ -8,7 +8,6 @@
 
 enum {
     PIECE_BYTES = 65536,    /* of the document, read at once */
-    HELD_BYTES = 1000000000,  /* of a tag or a declaration that libxml2 may hold: it takes no more */
     LONG_BYTES = 1048576,     /* the beginning of longer markup is not kept */
     MOST_CONSUMED = 1 << 30, /* the greatest offset that libxml2 has */
     SHORT_BYTES = 4096,     /* of a reference that is passed over */
@@ -18,6 +17,10 @@ enum {
     NEAR_BYTES = 128,       /* within which such a run is searched */
     SEARCHED_BYTES = 1024   /* for the beginning of an instruction */
 };
+
+#ifndef MOST_HELD
+#define MOST_HELD 1000000000 /* bytes of a tag or a declaration that libxml2 may hold: it takes no more */
+#endif
 
 static const char of_element[] = "<!ELEMENT";
 
@@ -516,7 +519,7 @@ static size_t held_by_parser(const struct feed *feed) {
 
 /* Refuses markup that is too long, and a document of which too much is held. */
 static void check_length(struct feed *feed, uint64_t markup) {
-    if (held_by_parser(feed) > HELD_BYTES) {
+    if (held_by_parser(feed) > MOST_HELD) {
         fault_set(feed->fault, FAULT_OUTSIDE, feed_place(feed, markup), "over a limit of this program: markup of more than 1,000,000,000 bytes");
     }
     if (feed->shortening.failed || feed->shortening.text.failed) {
@@ -539,7 +542,8 @@ static void look_for_runs(struct feed *feed, uint64_t markup) {
     bool is_declared = is_in_subset(feed);
     if (feed_byte(feed, markup) != '%' || is_declared) {
         struct span text = {feed->text.data, feed->text.length};
-        shortening_look(&feed->shortening, markup, whole_characters(text, feed->given), feed->begin, is_declared);
+        const struct offered offered = {markup, feed->begin, whole_characters(text, feed->given), text, held_by_parser(feed)};
+        shortening_look(&feed->shortening, &offered, is_declared);
     }
 }
 

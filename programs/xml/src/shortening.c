@@ -35,27 +35,6 @@ static size_t look(struct shortening *shortening, struct span text) {
     return length;
 }
 
-void shortening_look(struct shortening *shortening, uint64_t markup, struct span text, uint64_t begin, bool is_declared) {
-    struct run_scan *scan = &shortening->scan;
-    uint64_t end = begin + text.length;
-    if (end < markup + LOOKED_BYTES) {
-        return;
-    }
-    if (shortening->markup != markup || scan->looked == 0) {
-        struct span start = markup < begin ? (struct span){"", 0} : span_from(text, (size_t)(markup - begin));
-        shortening->markup = markup;
-        if (start.length >= sizeof "<!--" - 1) {
-            runs_begin(scan, markup, start, is_declared);
-        } else {
-            scan->part = PART_OTHER;
-            scan->looked = end;
-        }
-    }
-    while (scan->looked < end) {
-        look(shortening, span_from(text, (size_t)(scan->looked - begin)));
-    }
-}
-
 uint64_t shortening_behind(const struct shortening *shortening, uint64_t markup) {
     bool is_known = shortening->markup == markup && shortening->scan.behind > markup;
     return is_known ? shortening->scan.behind : markup;
@@ -196,15 +175,46 @@ static bool look_at_reference(struct shortening *shortening, struct span text) {
     return length > 0;
 }
 
-/* Looks at what comes next. Returns where it is cut; SIZE_MAX: it is not. */
-static size_t look_for_cut(struct shortening *shortening, const struct offered *offered) {
-    struct run_scan *scan = &shortening->scan;
+/* Looks at what comes next. Returns whether it is a reference that may be left out. */
+static bool look_at_next(struct shortening *shortening, const struct offered *offered) {
+    const struct run_scan *scan = &shortening->scan;
     size_t at = (size_t)(scan->looked - offered->offset);
     bool is_reference = offered->held >= LONGEST_HELD && is_at_reference(scan, offered);
     if (is_reference && look_at_reference(shortening, span_from(offered->known, at))) {
-        return offered->offset >= scan->sure + KEPT_BYTES ? at : SIZE_MAX;
+        return true;
     }
     look(shortening, span_from(offered->next, at));
+    return false;
+}
+
+void shortening_look(struct shortening *shortening, const struct offered *offered, bool is_declared) {
+    struct run_scan *scan = &shortening->scan;
+    uint64_t markup = offered->markup;
+    uint64_t end = offered->offset + offered->next.length;
+    if (end < markup + LOOKED_BYTES) {
+        return;
+    }
+    if (shortening->markup != markup || scan->looked == 0) {
+        struct span start = markup < offered->offset ? (struct span){"", 0} : span_from(offered->next, (size_t)(markup - offered->offset));
+        shortening->markup = markup;
+        if (start.length >= sizeof "<!--" - 1) {
+            runs_begin(scan, markup, start, is_declared);
+        } else {
+            scan->part = PART_OTHER;
+            scan->looked = end;
+        }
+    }
+    while (scan->looked < end) {
+        look_at_next(shortening, offered);
+    }
+}
+
+/* Looks at what comes next. Returns where it is cut; SIZE_MAX: it is not. */
+static size_t look_for_cut(struct shortening *shortening, const struct offered *offered) {
+    uint64_t at = shortening->scan.looked;
+    if (look_at_next(shortening, offered)) {
+        return offered->offset >= shortening->scan.sure + KEPT_BYTES ? (size_t)(at - offered->offset) : SIZE_MAX;
+    }
     return cut_of(shortening, offered);
 }
 

@@ -45,8 +45,8 @@ struct shortening {
 
 void shortening_free(struct shortening *shortening);
 
-/* Looks at what libxml2 has of the markup, which may be in a document type, once it is long. The text begins at the offset, and ends with a whole character. */
-void shortening_look(struct shortening *shortening, uint64_t markup, struct span text, uint64_t begin, bool is_declared);
+/* Looks at what libxml2 has of the markup, which may be in a document type, once it is long. Here the offset is that of `next`, which libxml2 has got. */
+void shortening_look(struct shortening *shortening, const struct offered *offered, bool is_declared);
 
 /* The offset behind the reference in content that is the markup; where it begins if its end was not looked at. */
 uint64_t shortening_behind(const struct shortening *shortening, uint64_t markup);

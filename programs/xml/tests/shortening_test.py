@@ -121,6 +121,7 @@ class Variant(InFolder):
         cls.builds = tempfile.TemporaryDirectory()
         folder = pathlib.Path(cls.builds.name)
         cls.short = build(folder / "short", "LONGEST_HELD=20000", "MOST_GIVEN=5000")
+        cls.tight = build(folder / "tight", "LONGEST_HELD=20000", "MOST_HELD=50000")
         cls.whole = build(folder / "whole", "LONGEST_NAME=9000000")
 
     @classmethod
@@ -157,6 +158,14 @@ class Variant(InFolder):
             self.assertTrue(self.assert_equal(f"<!DOCTYPE r [<!ENTITY e 'xy'>]><r xmlns:a='{one}' xmlns:b='{other}' a:c='' b:d=''><a:r/></r>", one[:9]))
         declared = f"<!DOCTYPE r [<!ATTLIST r xmlns CDATA '{long}'>]>"
         self.assertTrue(self.assert_equal(f"{declared}<r><r><b xmlns=''/></r></r>", "default"))
+
+    def test_it_holds_little(self):
+        """Markup of more than 50,000 bytes is read by a build that lets libxml2 hold no more."""
+        picture, model = ("A" * 76 + "&#10;") * 760, "|".join(f"n{at}" for at in range(15_000))
+        for subset, tag in (("", f"<r a='{picture}'/>"), (f"<!ATTLIST r a CDATA '{picture}'>", "<r/>"), (f"<!ENTITY e '{picture}'>", "<r>&e;</r>"),
+                            (f"<!ELEMENT r ({model})>", "<r/>"), (f"<!ATTLIST r {' CDATA #IMPLIED '.join(model.split('|'))} CDATA #IMPLIED>", "<r/>")):
+            document = f"<!DOCTYPE r [{subset}]>{tag}"
+            self.assert_same(self.converted(self.tight, document), self.converted(self.whole, document), document[:40])
 
     def test_models(self):
         """libxml2 gets several declarations in the place of one with a long model."""
