@@ -1173,8 +1173,8 @@ static void take_element(void *context, const xmlChar *name, int type, xmlElemen
     struct reader *reader = context;
     (void)type;
     declarations_names(&reader->declarations, name, content);
-    move_on(reader);
     feed_move_to_rest(&reader->feed);
+    move_on(reader);
     feed_shrink(&reader->feed);
 }
 

@@ -776,13 +776,18 @@ void feed_shrink(struct feed *feed) {
 }
 
 void feed_move_to_rest(struct feed *feed) {
-    feed_move(feed, feed->parted_at);
-    feed->rest_at = feed->parted_at;
+    if (feed->parting > 0 && feed_is_read(feed) && feed_offset(feed) > feed->parted_at) {
+        feed->skew -= feed->parting;
+        feed->parting = 0;
+        feed->rest_at = feed->parted_at;
+        feed_move(feed, feed->parted_at);
+    }
 }
 
 /* Parts a long model in the next bytes, of which libxml2 gets so many at most. Returns how many it gets up to there; 0: no model is parted. */
 static size_t give_parted(struct feed *feed, char *bytes, size_t most) {
-    if (feed->parser == NULL || !feed_is_read(feed) || most < 2 * PARTING_BYTES || held_by_parser(feed) < LONGEST_HELD) {
+    bool is_long = feed->parser != NULL && feed_is_read(feed) && held_by_parser(feed) >= LONGEST_HELD;
+    if (!is_long || most < 2 * PARTING_BYTES || feed->parting > 0) {
         return 0;
     }
     size_t cut = model_parting(&feed->models, whole_characters(not_given(feed), most - PARTING_BYTES));
@@ -790,10 +795,9 @@ static size_t give_parted(struct feed *feed, char *bytes, size_t most) {
         return 0;
     }
     write_bytes(feed, bytes, cut);
-    size_t length = part_model(&feed->models, bytes + cut);
+    feed->parting = part_model(&feed->models, bytes + cut);
     feed->parted_at = feed->begin + feed->given;
-    feed->skew -= length;
-    return cut + length;
+    return cut + feed->parting;
 }
 
 /* Gives at most so many bytes to libxml2, with less of long markup and more of long sections. Returns how many they are. */

@@ -54,7 +54,8 @@ struct feed {
     struct reference_scan references;
     struct model_scan models;
     uint64_t parted_at; /* the offset at which a long model was parted last; 0: none was */
-    uint64_t rest_at;   /* the same for the last one of which libxml2 has read the part before */
+    size_t parting;     /* how many bytes it got there in addition, if it has not read the part before; else 0 */
+    uint64_t rest_at;   /* the offset of the rest of the last one of which it has read that */
     struct section section;
     struct shortening shortening;
     const char *spelling; /* of marks in namespaces (spell_controls); NULL: these become characters */
@@ -150,7 +151,7 @@ static inline void feed_move_on(struct feed *feed, uint64_t next) {
  * a declaration may call this. */
 void feed_shrink(struct feed *feed);
 
-/* Moves on to the rest of the model, if the one that libxml2 has read was parted. */
+/* Moves on to the rest of a model that was parted, if the declaration that libxml2 has read is the part before. */
 void feed_move_to_rest(struct feed *feed);
 
 /* The offset of the markup that is being read, after blanks. */

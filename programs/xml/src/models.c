@@ -62,23 +62,18 @@ static char open(struct model_scan *scan) {
     if (scan->depth >= scan->most) {
         return leave(scan, DEEP_BRACKET);
     }
-    scan->depth++;
-    if (scan->depth == 1) {
-        scan->separator = '\0';
-        scan->is_mixed = false;
-    }
-    if (scan->depth >= FLAT_DEPTH) {
-        bytes_add_byte(&scan->separators, '\0');
-        scan->is_after = false;
-        scan->is_closed = false;
-    }
+    bytes_add_byte(&scan->separators, '\0');
     if (scan->separators.failed) {
-        scan->part = MODEL_END;
+        return leave(scan, '(');
     }
+    scan->depth++;
+    scan->is_mixed &= scan->depth > 1;
+    scan->is_after = false;
+    scan->is_closed = false;
     return scan->depth > FLAT_DEPTH ? ' ' : '(';
 }
 
-/* Goes out of a bracket that libxml2 may not get. */
+/* Goes out of a bracket. */
 static char close(struct model_scan *scan) {
     scan->depth--;
     scan->separators.length--;
@@ -86,9 +81,14 @@ static char close(struct model_scan *scan) {
     return scan->depth >= FLAT_DEPTH ? ' ' : ')';
 }
 
+/* The separator of an open bracket, the outermost of which is 1. */
+static char *separator_of(const struct model_scan *scan, size_t depth) {
+    return &scan->separators.data[depth - 1];
+}
+
 /* Takes a separator. A bracket has those of one kind. Libxml2 finds a bar where it had a comma. */
 static char separate(struct model_scan *scan, char byte) {
-    char *separator = &scan->separators.data[scan->separators.length - 1];
+    char *separator = separator_of(scan, scan->depth);
     if (*separator != '\0' && *separator != byte) {
         return leave(scan, '|');
     }
@@ -120,11 +120,17 @@ static char take_deep(struct model_scan *scan, char byte) {
     }
 }
 
-/* Takes a byte in the outermost bracket, up to the first separator. */
-static void take_outermost(struct model_scan *scan, char byte) {
+static bool is_separator(char byte) {
+    return byte == '|' || byte == ',';
+}
+
+/* Takes a byte in brackets that libxml2 gets. */
+static void take_shallow(struct model_scan *scan, char byte) {
     scan->is_mixed |= byte == '#';
-    if (scan->separator == '\0' && (byte == '|' || byte == ',')) {
-        scan->separator = byte;
+    if (byte == ')') {
+        close(scan);
+    } else if (is_separator(byte) && *separator_of(scan, scan->depth) == '\0') {
+        *separator_of(scan, scan->depth) = byte;
     }
 }
 
@@ -138,10 +144,8 @@ static char take_inside(struct model_scan *scan, char byte) {
         return take_deep(scan, byte);
     } else if (byte == '(') {
         return open(scan);
-    } else if (byte == ')' && scan->depth > 0) {
-        scan->depth--;
-    } else if (scan->depth == 1) {
-        take_outermost(scan, byte);
+    } else if (scan->depth > 0) {
+        take_shallow(scan, byte);
     }
     return byte;
 }
@@ -175,14 +179,19 @@ static char take(struct model_scan *scan, char byte) {
     return byte;
 }
 
+/* Whether one of three bytes is the byte. */
+static bool is_one_of(char byte, const char *bytes) {
+    return byte == bytes[0] || byte == bytes[1] || byte == bytes[2];
+}
+
 /* The place of the next byte that may have to be taken. */
 static size_t next(const struct model_scan *scan, struct span text, size_t at) {
     static const char of_parts[][4] = {[MODEL_OUTSIDE] = "<\"'",    [MODEL_LITERAL] = "\"'\"", [MODEL_COMMENT] = "---",
                                        [MODEL_INSTRUCTION] = "???", [MODEL_INSIDE] = "()>",    [MODEL_REFERRING] = ">>>"};
-    bool is_outermost = scan->depth == 1 && scan->separator == '\0';
-    bool is_each = scan->part == MODEL_BEGINNING || scan->count > 0 || scan->depth >= FLAT_DEPTH || is_outermost;
+    bool is_each = scan->part == MODEL_BEGINNING || scan->count > 0 || scan->depth >= FLAT_DEPTH;
     const char *bytes = of_parts[scan->part];
-    while (at < text.length && !is_each && text.data[at] != bytes[0] && text.data[at] != bytes[1] && text.data[at] != bytes[2]) {
+    const char *also = scan->part == MODEL_INSIDE ? "|,#" : bytes;
+    while (at < text.length && !is_each && !is_one_of(text.data[at], bytes) && !is_one_of(text.data[at], also)) {
         at++;
     }
     return at;
@@ -200,20 +209,46 @@ void make_shallow(struct model_scan *scan, char *text, size_t length) {
 }
 
 size_t model_parting(const struct model_scan *scan, struct span text) {
-    size_t depth = scan->part == MODEL_INSIDE && scan->separator != '\0' ? scan->depth : 0;
+    size_t depth = scan->part == MODEL_INSIDE ? scan->depth : 0;
+    size_t outer = depth; /* that of the outermost bracket so far */
     size_t found = SIZE_MAX;
     for (size_t at = 0; at < text.length && depth > 0 && found == SIZE_MAX; at++) {
         char byte = text.data[at];
-        bool is_separator = depth == 1 && (byte == '|' || byte == ',');
-        depth += byte == '(';
-        depth -= byte == ')' || byte == '>' || (is_separator && byte != scan->separator);
-        found = is_separator && depth == 1 ? at : SIZE_MAX;
+        depth = byte == '(' ? depth + 1 : byte == ')' ? depth - 1 : byte == '>' ? 0 : depth;
+        outer = depth < outer ? depth : outer;
+        if (is_separator(byte) && depth == outer) {
+            char known = *separator_of(scan, depth);
+            found = known == '\0' || known == byte ? at : SIZE_MAX;
+            depth = found == at ? depth : 0;
+        }
     }
     return found;
 }
 
+/* Writes the beginnings of the open brackets that libxml2 gets, each with a name before its separator. Returns the length. */
+static size_t reopen(const struct model_scan *scan, size_t depth, char *text) {
+    size_t length = 0;
+    for (size_t at = 1; at <= depth; at++) {
+        char separator = *separator_of(scan, at);
+        text[length++] = '(';
+        if (at == depth || separator != '\0') {
+            text[length++] = 'a';
+        }
+        if (at < depth && separator != '\0') {
+            text[length++] = separator;
+        }
+    }
+    return length;
+}
+
 size_t part_model(const struct model_scan *scan, char text[PARTING_BYTES]) {
-    return (size_t)snprintf(text, PARTING_BYTES, "%s><!ELEMENT left-out (%s", scan->is_mixed ? ")*" : ")", scan->is_mixed ? "#PCDATA" : "a");
+    static const char closed[] = "))))))))))))))))";
+    _Static_assert(sizeof closed == FLAT_DEPTH + 1, "each bracket that libxml2 gets can be closed");
+    int depth = (int)(scan->depth < FLAT_DEPTH ? scan->depth : FLAT_DEPTH);
+    const char *mixed_end = scan->is_mixed ? "*" : "";
+    const char *mixed = scan->is_mixed ? "(#PCDATA" : "";
+    size_t length = (size_t)snprintf(text, PARTING_BYTES, "%.*s%s><!ELEMENT left-out %s", depth, closed, mixed_end, mixed);
+    return scan->is_mixed ? length : length + reopen(scan, (size_t)depth, text + length);
 }
 
 /* Whether the declaration in whose text this is refers to a parameter entity. */

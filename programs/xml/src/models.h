@@ -13,7 +13,7 @@ enum {
     FLAT_DEPTH = 16,       /* the last bracket that libxml2 gets */
     DEEP_BRACKET = '\x01', /* libxml2 gets this for a bracket above the limit, where a name or a bracket may be. No document has it */
     LONGEST_BEGINNING = 9, /* `<!ELEMENT` */
-    PARTING_BYTES = 48     /* more than libxml2 gets where a model is parted */
+    PARTING_BYTES = 96     /* more than libxml2 gets where a model is parted */
 };
 
 /* What is being read of a document or of declarations. */
@@ -36,17 +36,16 @@ struct model_scan {
     char read[LONGEST_BEGINNING]; /* of the beginning */
     size_t count;            /* how many bytes were read of it, or of the end of a comment or an instruction; else 0 */
     size_t depth;            /* of brackets */
-    char separator;          /* that of the outermost bracket; 0: it has not come */
     bool is_mixed;           /* the model has `#PCDATA` */
     bool is_after;           /* a name or a closed bracket was last, and no separator. This and the next are known from FLAT_DEPTH on */
     bool is_closed;          /* such a bracket is directly before, and libxml2 does not get it */
-    struct bytes separators; /* those of the brackets from FLAT_DEPTH on; 0: none yet */
+    struct bytes separators; /* those of the open brackets, the outermost first; 0: none yet */
 };
 
 /* Makes the models in the next bytes shallow. If memory runs out, the separators say so. */
 void make_shallow(struct model_scan *scan, char *text, size_t length);
 
-/* Where the model at the start of the text can be parted: before a separator of its outermost bracket. SIZE_MAX: it can not. */
+/* Where the model at the start of the text can be parted: before a separator of a bracket that is open now. SIZE_MAX: it can not. */
 size_t model_parting(const struct model_scan *scan, struct span text);
 
 /* Writes what libxml2 gets there: the end of the declaration, and the beginning of one with the rest of the model. It is of an element that does not matter.

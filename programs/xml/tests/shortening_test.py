@@ -84,7 +84,14 @@ class Long:
         if self.chance.random() < 0.5:
             items = ["#PCDATA"] + [self.chance.choice(("a", "b", "p:c", "c ")) for _ in items]
             separator = "|"
-        return f"({separator.join(items)}){'*' if self.chance.random() < 0.95 else '?'}"
+        begin, end = ("", "") if items[0] == "#PCDATA" or self.chance.random() < 0.5 else self.brackets()
+        return f"({begin}{separator.join(items)}{end}){'*' if self.chance.random() < 0.95 else '?'}"
+
+    def brackets(self):
+        """The beginnings and ends of brackets around a model."""
+        count = self.chance.choice((1, 3, 15, 17))
+        around = [self.chance.choice((("(", ")"), ("a|(", ")"), ("a,b,(", ")*,c"), ("(", ")?|d"), ("a|(", "),b"))) for _ in range(count)]
+        return "".join(begin for begin, _ in around), "".join(end for _, end in reversed(around))
 
     def declaration(self):
         name = self.chosen()
@@ -162,8 +169,9 @@ class Variant(InFolder):
     def test_it_holds_little(self):
         """Markup of more than 50,000 bytes is read by a build that lets libxml2 hold no more."""
         picture, model = ("A" * 76 + "&#10;") * 760, "|".join(f"n{at}" for at in range(15_000))
+        inner = "(" * 20 + f"a,({model}),(a|b)" + ")" * 20
         for subset, tag in (("", f"<r a='{picture}'/>"), (f"<!ATTLIST r a CDATA '{picture}'>", "<r/>"), (f"<!ENTITY e '{picture}'>", "<r>&e;</r>"),
-                            (f"<!ELEMENT r ({model})>", "<r/>"), (f"<!ATTLIST r {' CDATA #IMPLIED '.join(model.split('|'))} CDATA #IMPLIED>", "<r/>")):
+                            (f"<!ELEMENT r ({model})>", "<r/>"), (f"<!ELEMENT r {inner}>", "<r/>"), (f"<!ATTLIST r {' CDATA #IMPLIED '.join(model.split('|'))} CDATA #IMPLIED>", "<r/>")):
             document = f"<!DOCTYPE r [{subset}]>{tag}"
             self.assert_same(self.converted(self.tight, document), self.converted(self.whole, document), document[:40])
 
@@ -173,7 +181,8 @@ class Variant(InFolder):
             return f"<!DOCTYPE r [<!ELEMENT r ({separator.join(items)}){end}>]><r a=''/>"
 
         many = [f"n{at}" for at in range(9_000)]
-        for separator, front, end in (("|", ["a"], "*"), (",", ["(a|b)+"], "?"), ("|", ["#PCDATA"], "*")):
+        deep = "(c|" * 20 + "|".join(many) + ")" * 20
+        for separator, front, end in (("|", ["a"], "*"), (",", ["(a|b)+"], "?"), ("|", ["#PCDATA"], "*"), (",", ["((a|b),c)", "(d?)", deep, "(a|b)"], "")):
             self.assertTrue(self.assert_equal(document(separator, end, *front, *many), separator))
             for wrong in ("a,b|c", "", "#PCDATA", "a?b", "a:b:c", "a)"):
                 self.assertFalse(self.assert_equal(document(separator, end, *front, *many[:7_000], wrong, *many[7_000:]), (separator, wrong)))
