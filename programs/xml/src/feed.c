@@ -654,7 +654,7 @@ static size_t leave_reference(struct feed *feed) {
     return length;
 }
 
-/* Leaves out the rest of the run at which libxml2 is. What it has got was looked at. */
+/* Leaves out the rest of the run at which libxml2 is, as long as what is kept of it is not too much. What libxml2 has got was looked at. */
 static void leave_out(struct feed *feed) {
     size_t length = 0;
     do {
@@ -663,7 +663,8 @@ static void leave_out(struct feed *feed) {
         size_t reference = leave_reference(feed);
         pass(feed, reference);
         length += reference;
-    } while (length > 0 && read_for(feed, KEPT_ZEROS + 1));
+        feed_check_memory(feed, feed->place);
+    } while (length > 0 && read_for(feed, KEPT_ZEROS + 1) && feed->fault->kind == FAULT_NONE);
 }
 
 /* Gives the bytes before the cut to libxml2, and what it gets in the place of the rest of the run. Returns how many they are. */

@@ -6,7 +6,7 @@ import subprocess
 import tempfile
 import unittest
 
-from testing import HERE, RNCV_XML, XML2PYX, InFolder
+from testing import HERE, RNCV_XML, XML2PYX, InFolder, peak_of
 
 DOCUMENTS = int(os.environ.get("RNCV_XML_SHORTENED", "60"))
 ANY = "any = element * { (attribute * { text } | text | any)* } start = any"
@@ -297,6 +297,14 @@ class Whole(InFolder):
         for front, tag, status in (("", f"<r a='{long}vb'/>", 0), ("", f"<r a='{long}v b'/>", 1), (f"<!ATTLIST r a CDATA '{long}&#118;b'>", "<r/>", 0),
                                    (f"<!ATTLIST r a CDATA '{long}b'>", "<r/>", 1), (f"<!ENTITY e '{long}'>", "<r a='&e;&e;vb'/>", 0)):
             self.assertEqual(self.judged(f"<!DOCTYPE r [{front}]>{tag}", "s.rnc")[1], status)
+
+    def test_no_more_is_held_of_them_than_is_allowed(self):
+        self.without_sanitizers(RNCV_XML)
+        for begin, length, most in (("<r", 60_000_000, 10), ("<r a='", 160_000_000, 100)):
+            self.write("d.xml", begin + "a" * length)
+            self.assertIn("--max-memory", self.judge("--max-memory", f"{most}M", "any.rnc", "d.xml")[0])
+            peak, _ = peak_of([RNCV_XML, "--max-memory", f"{most}M", self.folder / "any.rnc", self.folder / "d.xml"])
+            self.assertLess(peak, (most + 20) * 1024, begin)
 
     def test_places_behind_them(self):
         self.write("s.rnc", "element r { element b { attribute c { text }? }+ }")
