@@ -492,22 +492,39 @@ static bool has_other_bars(const struct feed *feed, uint64_t markup) {
     return feed->rest_at > 0 && markup == feed->rest_at; /* the rest of a declaration of an element */
 }
 
+/* Counts the bar at the offset if it is between choices. What is known of the text may be more than the declaration that libxml2 reads. */
+static void count_bar(struct feed *feed, uint64_t offset) {
+    struct choice_scan *choices = &feed->choices;
+    char byte = feed_byte(feed, offset);
+    if (choices->quote != '\0') {
+        choices->quote = byte == choices->quote ? '\0' : choices->quote;
+    } else if (byte == '"' || byte == '\'') {
+        choices->quote = byte;
+    } else if (byte == ')' || byte == '>') {
+        choices->bars = 0;
+        choices->is_outside |= byte == '>';
+    } else if (choices->is_outside) {
+        choices->is_outside = byte != 'A' || feed_byte(feed, offset - 1) != '!'; /* of `<!ATTLIST` */
+    } else {
+        choices->bars += byte == '|';
+    }
+}
+
 /* Refuses a declaration with too many choices, before all of it has come. */
 static void check_choices(struct feed *feed, uint64_t markup) {
+    struct choice_scan *choices = &feed->choices;
     uint64_t given = feed->begin + feed->given;
     if (feed->parser->instate != XML_PARSER_DTD || has_other_bars(feed, markup)) {
         return;
     }
-    if (feed->choices_begin != feed->next) {
-        feed->choices_begin = feed->next;
-        feed->choices_at = feed->next;
-        feed->bars = 0;
+    if (choices->begin != feed->next) {
+        *choices = (struct choice_scan){.begin = feed->next, .next = feed->next};
     }
-    for (; feed->choices_at < given; feed->choices_at++) {
-        feed->bars += feed_byte(feed, feed->choices_at) == '|';
+    for (; choices->next < given && choices->bars < feed->most_attributes; choices->next++) {
+        count_bar(feed, choices->next);
     }
-    if (feed->bars >= feed->most_attributes) {
-        feed_refuse(feed, feed_place(feed, feed->next), too_many_choices, feed->most_attributes, "--max-attributes");
+    if (choices->bars >= feed->most_attributes) {
+        feed_refuse(feed, feed_place(feed, markup), too_many_choices, feed->most_attributes, "--max-attributes");
     }
 }
 
@@ -629,7 +646,7 @@ static struct span not_given(const struct feed *feed) {
 static void pass(struct feed *feed, size_t length) {
     feed->given += length;
     feed->scan.next = feed->begin + feed->given;
-    feed->choices_at = feed->scan.next;
+    feed->choices.next = feed->scan.next;
     section_pass(&feed->section, feed->scan.next);
     tell_doubt(feed);
 }

@@ -27,6 +27,15 @@ struct tag_scan {
     bool has_ended;
 };
 
+/* The declarations that are being read: how many choices are in the last bracket of one of attributes. They are counted while the text comes. */
+struct choice_scan {
+    uint64_t begin;  /* where the counting began */
+    uint64_t next;   /* the offset from which on bars are not counted */
+    size_t bars;     /* how many there are before that, one fewer than choices */
+    char quote;      /* of the literal that is being read; 0: none */
+    bool is_outside; /* behind the end of a declaration, and before another one of attributes */
+};
+
 struct feed {
     const struct byte_source *source;
     struct fault *fault;
@@ -45,9 +54,7 @@ struct feed {
     uint64_t away_at;
     uint64_t markup;    /* the offset after the blanks at `next`, as far as they are known */
     uint64_t settled;   /* the last offset up to which references that gave nothing were passed */
-    uint64_t choices_at;    /* the offset from which on the bars between choices of a declaration are not counted */
-    size_t bars;            /* how many there are before that */
-    uint64_t choices_begin; /* where the counting began */
+    struct choice_scan choices;
     uint64_t next;      /* the offset of the markup or the text that is being read */
     struct tag_scan scan;
     struct control_scan controls; /* in a document of XML 1.1 */

@@ -307,6 +307,17 @@ class Lines(InFolder):
             "d.xml:2:1: over a limit of this program: a declaration of attributes has more than 1 choices (--max-attributes)\n", 2))
         self.assertEqual(self.judge("--max-attributes", "2", "t.rnc", "d.xml"), ("", 0))
 
+    def test_choices_of_declarations_behind_each_other(self):
+        """The choices of each list are counted by themselves, and not what has come of the next declaration."""
+        self.write("t.rnc", "start = any\nany = element * { attribute * { text }*, any* }")
+        few, many = ("|".join(f"n{number}" for number in range(count)) for count in (40, 400))
+        for declared, status in ((f"<!ATTLIST a> <!ELEMENT a ({many})>", 0), (f"<!ATTLIST a ~ ({few}) #IMPLIED><!ELEMENT a ({many})*>", 0),
+                                 (f"<!ATTLIST a ~ ({few}) 'n1'><!ENTITY ~ '{many}'>", 0), (f"<!ATTLIST a ~ ({few}) #IMPLIED b~ NOTATION ({few}) #IMPLIED>", 0),
+                                 (f"<!-- ' --><!ATTLIST a> <!ATTLIST a ~ CDATA '{few}' b~ ({many}) #IMPLIED>", 2)):
+            text = "".join(declared.replace("~", f"x{number}") for number in range(100))
+            self.write("d.xml", f"<!DOCTYPE a [{text}]><a/>")
+            self.assertEqual(self.judge("--max-attributes", "50", "t.rnc", "d.xml")[1], status, declared[:50])
+
     def test_many_defaults(self):
         """What defaults give beyond the document's length is limited. The option raises that by its square."""
         self.write("t.rnc", "start = any\nany = element * { attribute * { text }*, any* }")
