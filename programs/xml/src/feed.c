@@ -839,6 +839,15 @@ static void count_from_zero(struct feed *feed) {
     }
 }
 
+/* Takes the fault in the document's bytes once libxml2 has got all that is before it. */
+static void take_fault(struct feed *feed) {
+    struct fault *why = &feed->decoding.fault;
+    if (feed->given == feed->text.length && why->kind != FAULT_NONE) {
+        struct place place = why->kind == FAULT_MEMORY ? (struct place){0, 0} : feed_place(feed, end_of(feed));
+        fault_set(feed->fault, why->kind, place, "%s", bytes_text(&why->what));
+    }
+}
+
 /* libxml2 looks ahead in what it gets at once, so it gets all that it asks for unless the document ends. */
 int feed_read(void *context, char *bytes, int length) {
     struct feed *feed = context;
@@ -848,11 +857,7 @@ int feed_read(void *context, char *bytes, int length) {
     if (!read_for(feed, wanted + (held_by_parser(feed) < LONGEST_HELD ? 0 : SHORT_BYTES))) {
         return -1;
     }
-    if (feed->given == feed->text.length && feed->decoding.fault.kind != FAULT_NONE) {
-        struct fault *why = &feed->decoding.fault;
-        struct place place = why->kind == FAULT_MEMORY ? (struct place){0, 0} : feed_place(feed, end_of(feed));
-        fault_set(feed->fault, why->kind, place, "%s", bytes_text(&why->what));
-    }
+    take_fault(feed);
     if (feed->fault->kind != FAULT_NONE) {
         return -1;
     }
@@ -860,6 +865,9 @@ int feed_read(void *context, char *bytes, int length) {
         return 0;
     }
     size_t count = give(feed, bytes, wanted);
+    if (count == 0) { /* all that came before the fault was left out, and libxml2 must not take that for the end */
+        take_fault(feed);
+    }
     tell_doubt(feed);
     stop_asking(feed);
     check(feed);

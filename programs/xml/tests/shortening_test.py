@@ -279,6 +279,13 @@ class Whole(InFolder):
             with self.subTest(document[:40]):
                 self.assertEqual(self.judged(document)[1], status)
 
+    def test_bytes_that_are_no_character_behind_them(self):
+        for text in ("<r/>", "", "<r/><!-- x -->\n", "<!DOCTYPE r [", "<!DOCTYPE r SYSTEM 'a", "<r a='1'"):
+            for length in (20_000, 20_001, 30_000):
+                line, status = self.judged((text + " " * length).encode() + b"\xFF")
+                place = f"{1 + text.count(chr(10))}:{len(text) - text.rfind(chr(10)) + length}"
+                self.assertEqual((line, status), (f"d.xml:{place}: malformed XML: bytes that are no character of UTF-8\n", 2), text)
+
     def test_namespaces(self):
         long = "u" * 34_000_000
         for other, wanted in (("", "malformed"), ("v", "valid")):
