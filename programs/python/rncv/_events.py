@@ -110,7 +110,7 @@ def walk(root: Any) -> Iterator[tuple[str, Any]]:
     instructions there is the tail alone."""
     yield "start", root
     yield "text", root
-    open_elements = [(root, iter(root))]
+    open_elements = [(root, children_of(root))]
     while open_elements:
         element, children = open_elements[-1]
         child = next(children, None)
@@ -122,9 +122,15 @@ def walk(root: Any) -> Iterator[tuple[str, Any]]:
         elif is_element(child):
             yield "start", child
             yield "text", child
-            open_elements.append((child, iter(child)))
+            open_elements.append((child, children_of(child)))
         else:
             yield "tail", child
+
+
+def children_of(element: Any) -> Iterator[Any]:
+    """The children of an element. One of `lxml.objectify` iterates over itself and the elements beside it that have its name."""
+    children: Iterator[Any] = element.iterchildren() if hasattr(type(element), "iterchildren") else iter(element)
+    return children
 
 
 def is_element(node: Any) -> bool:
@@ -140,7 +146,8 @@ def is_element(node: Any) -> bool:
 
 def root_of(tree: Any) -> Any:
     """The root of a tree: an element, or what has one by `getroot`."""
-    root = tree.getroot() if hasattr(tree, "getroot") else tree
+    # an element of `lxml.objectify` has its children as attributes, whatever they are called
+    root = tree.getroot() if hasattr(type(tree), "getroot") else tree
     if not (hasattr(root, "tag") and hasattr(root, "attrib") and hasattr(root, "tail")) or not is_element(root):
         raise TypeError(f"a tree is an element of xml.etree.ElementTree or lxml, and not {type(root).__name__}")
     return root

@@ -20,6 +20,7 @@ PLACE = (1 << 64) - 1
 lxml_trees = None
 if importlib.util.find_spec("lxml"):
     import lxml.etree as lxml_trees
+    import lxml.objectify as lxml_objects
 
 
 def named(uri, local):
@@ -227,6 +228,29 @@ class Trees(unittest.TestCase):
         with rncv.compile(LETTERS) as validator:
             tree = trees.Element(trees.QName("urn:l", "letter"), {trees.QName("to"): "x"})
             self.assertTrue(validator.validate_tree(tree))
+
+    def test_elements_that_iterate_over_others(self):
+        """An element of lxml.objectify iterates over itself and the elements beside it that have its name, and its attributes are its children."""
+        class Element(trees.Element):
+            def __iter__(self):
+                raise AssertionError("these are not its children")
+
+            def iterchildren(self):
+                return iter([self[at] for at in range(len(self))])
+
+            def __getattr__(self, name):
+                if name != "getroot":
+                    raise AttributeError(name)
+                return self.find("{urn:l}getroot")
+
+        parsers = [lambda xml: trees.fromstring(xml, trees.XMLParser(target=trees.TreeBuilder(Element)))]
+        if lxml_trees:
+            parsers.append(lxml_objects.fromstring)
+        with rncv.compile(LETTERS) as validator:
+            for parsed in parsers:
+                self.assertTrue(validator.validate_tree(parsed("<letter xmlns='urn:l'><title>a</title><title>b</title><n>7</n></letter>")))
+                tree = parsed("<letter xmlns='urn:l'><title>a</title><getroot/></letter>")
+                self.assertEqual(str(validator.validate_tree(tree)), "invalid at the start of {urn:l}getroot")
 
     def test_malformed(self):
         with rncv.compile(LETTERS) as validator:
