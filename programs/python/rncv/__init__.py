@@ -285,8 +285,8 @@ class Validator:
         `{uri}local`. Comments and processing instructions are left out, and the texts around them are one. The tree may be of any depth. Do not change it
         during the call.
 
-        TypeError: it is no such tree, or a name, a text or a value in it is not text. ValueError: it has a reference to an entity. RuntimeError: another
-        document is in progress. MemoryError: out of memory.
+        TypeError: it is no such tree, or a name, a text or a value in it is not text. ValueError: it has a reference to an entity, or an element that is in
+        itself. RuntimeError: another document is in progress. MemoryError: out of memory.
         """
         root = _events.root_of(tree)
         with self.events() as events:

@@ -107,19 +107,24 @@ def array_of(attributes: Any) -> Any:
 
 def walk(root: Any) -> Iterator[tuple[str, Any]]:
     """What a tree has, in order: "start", "text", "end" and "tail", each with its element. The tail of the root is no part of it. Of comments and processing
-    instructions there is the tail alone."""
+    instructions there is the tail alone. ValueError: an element is in itself, so the tree has no end."""
     yield "start", root
     yield "text", root
     open_elements = [(root, children_of(root))]
+    numbers = {id(root)}
     while open_elements:
         element, children = open_elements[-1]
         child = next(children, None)
         if child is None:
             yield "end", element
             open_elements.pop()
+            numbers.remove(id(element))
             if open_elements:
                 yield "tail", element
         elif is_element(child):
+            if id(child) in numbers:
+                raise ValueError("an element of the tree is in itself")
+            numbers.add(id(child))
             yield "start", child
             yield "text", child
             open_elements.append((child, children_of(child)))

@@ -284,6 +284,20 @@ class Trees(unittest.TestCase):
                 tree = lxml_trees.fromstring("<!DOCTYPE a [<!ENTITY e 'x'>]><letter xmlns='urn:l'>&e;</letter>", parser)
                 self.assertRaises(ValueError, validator.validate_tree, tree)
 
+    def test_elements_in_themselves(self):
+        with rncv.compile(LETTERS) as validator:
+            for depth in (0, 1, 5):
+                root = inner = trees.Element(NAME)
+                for _ in range(depth):
+                    inner = trees.SubElement(inner, NAME)
+                inner.append(root)
+                self.assertRaisesRegex(ValueError, "in itself", validator.validate_tree, root)
+                inner.clear()
+            # the same element at several places is not in itself
+            root, title = trees.Element(NAME), trees.Element("{urn:l}title")
+            root.extend([title, title])
+            self.assertTrue(validator.validate_tree(root))
+
     def test_depth(self):
         """A tree is walked without recursion."""
         with rncv.compile({"s.rnc": b"start = a a = element a { a? }"}) as validator:
