@@ -675,10 +675,10 @@ class Events(_InProgress):
         return reason_of(told, words[-2] if words else ())
 
     def _place_of(self, place: Optional[int]) -> int:
-        self._count += 1
-        number = self._count if place is None else operator.index(place)
+        number = self._count + 1 if place is None else operator.index(place)
         if not 0 < number < 1 << 64:
             raise ValueError(f"a place is a number from 1 to 2^64 - 1, and not {number}")
+        self._count += 1
         return number
 
     def _tell(self, at: str, element: Any) -> bool:

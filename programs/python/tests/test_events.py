@@ -152,6 +152,15 @@ class Events(unittest.TestCase):
             self.assertTrue(events.start(NAME, place=5) and events.end(6))
             self.assertEqual(events.finish(), rncv.EventVerdict("valid"))
 
+    def test_calls_that_raise_do_not_count(self):
+        """Without a place it is the number of the start or end."""
+        with rncv.compile(LETTERS) as validator, validator.events() as events:
+            for error, place in [(ValueError, 0), (ValueError, PLACE + 1), (TypeError, "1")]:
+                self.assertRaises(error, events.start, NAME, (), place)
+                self.assertRaises(error, events.end, place)
+            self.assertTrue(events.start(NAME) and events.start("a"))
+            self.assertEqual(events.invalid_since(), 2)
+
     def test_order(self):
         with rncv.compile(LETTERS) as validator:
             events = validator.events()
