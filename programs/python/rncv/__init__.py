@@ -247,8 +247,9 @@ class Validator:
         OSError: the file cannot be read. An exception from a binary file goes to the caller, and the validator can judge the next document. LibraryError:
         there is no library for XML. RuntimeError: another document is in progress. MemoryError: out of memory.
         """
-        if hints < 0:
-            raise ValueError(f"hints is how many there are at most, and not {hints}")
+        most = operator.index(hints)
+        if most < 0:
+            raise ValueError(f"hints is how many there are at most, and not {most}")
         with self._lock:
             if self._closed or self._document is not None:
                 self._want_free()
@@ -256,7 +257,7 @@ class Validator:
             self._document = _in_progress
         try:
             judge.want_ids(bool(ids))
-            verdict = judge.of_bytes(document) if type(document) is bytes and not hints else _judged_xml(judge, document, hints)
+            verdict = judge.of_bytes(document) if type(document) is bytes and not most else _judged_xml(judge, document, most)
         finally:
             with self._lock:
                 self._document = None
@@ -773,9 +774,10 @@ def datatype_place(file: Bytes, datatypes: str = "profile") -> Optional[Place]:
 
 def clause_title(group: str, clause: int) -> Optional[str]:
     """Returns the title of a clause, in English: group "S" with 1 to 27, or group "P" with 1 to 13. None for any other."""
-    if group not in ("S", "P") or not 0 < clause < 100:
+    number = operator.index(clause)
+    if group not in ("S", "P") or not 0 < number < 100:
         return None
-    title: Optional[bytes] = _library().rncv_clause_title(group.encode("ascii"), clause)
+    title: Optional[bytes] = _library().rncv_clause_title(group.encode("ascii"), number)
     return None if title is None else title.decode("utf-8")
 
 

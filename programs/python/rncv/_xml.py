@@ -18,6 +18,8 @@ _CALL_BYTES = 1_048_576
 _DONE, _MEMORY = 0, 3
 _KINDS = ("failed", "valid", "invalid", "malformed", "outside")
 _FAILED, _IS_VALID = 0, 1
+# The most hints about a document (RNCV_XML_MOST_HINTS). The number of a call of C does not hold every number of Python.
+_MOST_HINTS = 999
 _PLACES = (None, "element", "attribute", "text", "end")
 
 NAMES = ("librncv_xml.so", "librncv_xml.so.0", "librncv_xml.dylib")
@@ -318,7 +320,7 @@ class Judge:
 
     def _hints(self, file: Any, most: int) -> tuple[XmlVerdict, ...]:
         """Further faults of the document in a file, from its position on."""
-        count = ctypes.c_size_t()
+        count, most = ctypes.c_size_t(), min(most, _MOST_HINTS)
         _, status = self._read(file, lambda read: self._library.rncv_xml_judge_again(self._to_handle, read, None, most, ctypes.byref(count)))
         _want_done(status)
         return tuple(self._hint(index) for index in range(count.value))

@@ -374,6 +374,8 @@ class Schemas(unittest.TestCase):
         self.assertEqual(rncv.clause_title("P", 13), "a document has a root, and its elements are closed (XML 2.1)")
         for group, clause in [("S", 0), ("S", 28), ("P", 14), ("Q", 1), ("", 1), ("S", -1), ("S", 2 ** 40)]:
             self.assertIsNone(rncv.clause_title(group, clause))
+        for clause in (1.5, "1", None):
+            self.assertRaises(TypeError, rncv.clause_title, "S", clause)
         self.assertIsNone(VALID.title)
 
     def test_version(self):

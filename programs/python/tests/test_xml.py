@@ -152,11 +152,14 @@ class Judged(unittest.TestCase):
                 form.close()
         first = verdict.hints[0]
         self.assertEqual((first.kind, first.at, first.name, first.reason, first.expected), ("invalid", "text", "three", "text-value", ('"two"',)))
-        self.assertEqual([len(self.validator.validate_xml(document, hints=most).hints) for most in (0, 1, 2, 999_999)], [0, 1, 2, 3])
+        self.assertEqual([len(self.validator.validate_xml(document, hints=most).hints) for most in (0, 1, 2, 999_999, 1 << 64)], [0, 1, 2, 3, 3])
         self.assertEqual(self.validator.validate_xml(document).hints, ())
         for other in (GOOD, b"<a x='2'><b></a>", b"<a x='2'>&e;</a>"):
             self.assertEqual(self.validator.validate_xml(other, hints=20).hints, (), other)
         self.assertRaisesRegex(ValueError, "not -1", self.validator.validate_xml, document, hints=-1)
+        for most in (1.5, "3", None):
+            for other in (document, GOOD):
+                self.assertRaises(TypeError, self.validator.validate_xml, other, hints=most)
 
     def test_hints_of_a_file(self):
         """It is read again from the position that it had, if it can go back."""
