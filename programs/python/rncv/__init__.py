@@ -34,7 +34,7 @@ import threading
 import weakref
 from collections.abc import Callable, Generator, Iterable, Iterator, Mapping
 from types import TracebackType
-from typing import Any, BinaryIO, NamedTuple, NoReturn, Optional, Type, TypeVar, Union, overload
+from typing import Any, NamedTuple, NoReturn, Optional, Protocol, Type, TypeVar, Union, overload, runtime_checkable
 
 from . import _events, _schema_files, _xml
 from ._events import Attributes, EventVerdict, TreeVerdict
@@ -49,6 +49,15 @@ __version__ = "0.9.0"
 
 Bytes = Union[bytes, bytearray, memoryview]
 Path = Union[str, "os.PathLike[str]"]
+
+
+@runtime_checkable
+class BinaryFile(Protocol):
+    """A binary file. Those of `gzip`, `zipfile`, `subprocess` and others are no `typing.BinaryIO`."""
+
+    def read(self, size: int, /) -> Optional[Bytes]:
+        """Returns up to so many bytes, and none at the end."""
+
 
 # How much is read at once from the file of a document, and up to how much small pieces are joined.
 _READ_BYTES = 65_536
@@ -221,7 +230,7 @@ class Validator:
         # Do not free it at the end of the process: a thread may still be in a call.
         self._free.atexit = False
 
-    def validate(self, document: Union[Bytes, BinaryIO, Iterable[Bytes]]) -> Verdict:
+    def validate(self, document: Union[Bytes, BinaryFile, Iterable[Bytes]]) -> Verdict:
         """Judges a document in PYX: bytes, a binary file, or pieces that come one after another, such as lines. A file is read from its position to its end.
 
         Once the document is malformed, no more of a file is read, and of the pieces at most 65,536 bytes more: small ones are joined, since a call of the
@@ -235,7 +244,7 @@ class Validator:
                     break
             return begun.finish()
 
-    def validate_xml(self, document: Union[Path, Bytes, BinaryIO], ids: bool = True, hints: int = 0) -> XmlVerdict:
+    def validate_xml(self, document: Union[Path, Bytes, BinaryFile], ids: bool = True, hints: int = 0) -> XmlVerdict:
         """Judges an XML document: the path of a file, bytes, or a binary file. A binary file is read from its position to its end, in pieces of 64 KiB.
 
         If the schema names the datatypes ID, IDREF and IDREFS, or is a copy by `rncv-profile` of one that does, each ID has to be there once, and what refers

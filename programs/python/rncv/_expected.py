@@ -72,7 +72,7 @@ def expected_of(written: bytes) -> Expected:
     """What the lines of the library say."""
     lines = [line.split(" ") for line in dict.fromkeys(written.decode("utf-8").split("\n")[:-1])]
     elements = tuple(_classes_of(line[:0:-1])[0] for line in lines if line[0] == "element")
-    values = tuple(Value(_plain(line[3]), Datatype(*map(_plain, line[1:3]))) for line in lines if line[0] == "value")
+    values = tuple(Value(_plain(line[3]), Datatype(_plain(line[1]), _plain(line[2]))) for line in lines if line[0] == "value")
     datatypes = tuple(_datatype_of(*map(_plain, line[1:])) for line in lines if line[0] == "datatype")
     return Expected(elements, ["text"] in lines, values, datatypes)
 

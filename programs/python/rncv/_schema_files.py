@@ -220,7 +220,7 @@ def _is_file(path: bytes) -> bool:
 
 def _is_same(one: str, other: str) -> bool:
     """Whether both paths lead to the same thing, or neither leads to anything."""
-    found = []
+    found: list[Optional[tuple[int, int]]] = []
     for path in (one, other):
         try:
             state = os.stat(path)

@@ -289,12 +289,12 @@ class Judge:
         return verdict
 
     @staticmethod
-    def _read(file: Any, call: Callable[[Any], int]) -> tuple[bool, int]:
+    def _read(file: Any, call: Callable[[Any], Any]) -> tuple[bool, int]:
         """Whether a call has read a file to its end, and the status of the call. It gets the function that reads."""
         source = _Source(file)
         pieces = source.pieces()
         next(pieces)
-        status = call(_Read(pieces.send))
+        status: int = call(_Read(pieces.send))
         error, source.error = source.error, None
         if error is not None:
             try:

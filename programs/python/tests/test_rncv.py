@@ -4,6 +4,8 @@ import contextlib
 import copy
 import ctypes.util
 import gc
+import gzip
+import importlib.util
 import io
 import os
 import pathlib
@@ -12,8 +14,10 @@ import subprocess
 import sys
 import tempfile
 import threading
+import typing
 import unittest
 import unittest.mock as mock
+import zipfile
 
 from pages import TOP, clauses, document_of, page, schema_of, served
 
@@ -125,6 +129,29 @@ class Documents(unittest.TestCase):
                 raw.seek(0)
                 self.assertEqual(str(validator.validate(raw)), "malformed P4 line 1")
                 self.assertEqual(raw.tell(), 65_536)
+
+    def test_types_of_files(self):
+        """Whatever is read from is a document for a checker of types, too, also if it is no `typing.BinaryIO`."""
+        for call in (rncv.Validator.validate, rncv.Validator.validate_xml):
+            self.assertIn(rncv.BinaryFile, typing.get_args(typing.get_type_hints(call)["document"]))
+        for file in (io.BytesIO(), gzip.GzipFile(fileobj=io.BytesIO(), mode="w"), zipfile.ZipFile(io.BytesIO(), "w").open("a", "w")):
+            self.assertIsInstance(file, rncv.BinaryFile)
+
+    @unittest.skipUnless(importlib.util.find_spec("mypy"), "no mypy")
+    def test_types(self):
+        """The package, and a program that uses it, have the types that they say."""
+        program = "\n".join([
+            "import gzip, io, pathlib, subprocess, zipfile, rncv",
+            "def judged(validator: rncv.Validator, path: pathlib.Path, zipped: zipfile.ZipFile, run: subprocess.Popen[bytes]) -> list[bool]:",
+            "    assert run.stdout is not None",
+            "    verdicts = [validator.validate_xml(path), validator.validate_xml(gzip.open(path)), validator.validate_xml(zipped.open('a'), hints=3),",
+            "                validator.validate_xml(run.stdout), validator.validate_xml(path.open('rb')), validator.validate_xml(io.BytesIO())]",
+            "    return [bool(validator.validate(run.stdout)), bool(validator.validate(gzip.open(path))), *map(bool, verdicts)]",
+        ])
+        with folder() as room:
+            command = [sys.executable, "-m", "mypy", "--strict", "--cache-dir", str(room), "-c", program]
+            checked = subprocess.run(command, env={**os.environ, "MYPYPATH": str(TOP / "programs/python")}, capture_output=True, text=True, check=False)
+        self.assertEqual((checked.returncode, checked.stderr), (0, ""), checked.stdout)
 
     def test_small_pieces(self):
         """Small pieces are joined up to 64 KiB, so that there are few calls. Once the document is malformed, no more than that is read."""
