@@ -196,9 +196,11 @@ class _Source:
         """
         try:
             while True:
-                self._fill(_Piece.from_address((yield)))
-        except GeneratorExit:
-            raise
+                try:
+                    address = yield
+                except GeneratorExit:  # this generator is closed; one from the file is an exception like others
+                    return
+                self._fill(_Piece.from_address(address))
         except BaseException as error:  # pylint: disable=broad-except
             self.error = error
         yield

@@ -440,6 +440,7 @@ class Errors(unittest.TestCase):
                 return answer(size) if callable(answer) else answer
 
         for answers, kind in [((OSError("mine"),), OSError), ((GOOD, KeyboardInterrupt()), KeyboardInterrupt), ((b"<a>", KeyError("mine")), KeyError),
+                              ((b"<a>", GeneratorExit()), GeneratorExit), ((StopIteration(),), StopIteration),
                               ((None,), BlockingIOError), (("<a/>",), TypeError), ((5,), TypeError), ((lambda size: b"x" * (size + 1),), ValueError),
                               ((lambda size: 1 // 0,), ZeroDivisionError)]:
             with self.subTest(answers):
