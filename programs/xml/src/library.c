@@ -269,6 +269,15 @@ int32_t rncv_xml_annotations_blank(void *bytes, size_t length, int32_t *changed)
     return is_good ? RNCV_DONE : RNCV_MEMORY;
 }
 
+/* Whether the names and the texts of the files are there. */
+static bool are_there(const rncv_file *files, size_t count) {
+    bool is_good = files != NULL || count == 0;
+    for (size_t at = 0; at < count && is_good; at++) {
+        is_good = (files[at].name != NULL || files[at].name_length == 0) && (files[at].bytes != NULL || files[at].length == 0);
+    }
+    return is_good;
+}
+
 /* The files as the search for a hint takes them. NULL: out of memory. */
 static struct schema_hint_file *hint_files(const rncv_file *files, const char *const *paths, size_t count) {
     struct schema_hint_file *list = calloc(count, sizeof *list);
@@ -300,7 +309,7 @@ static void find_hint(struct schema_hint_file *list, size_t count, int32_t claus
 }
 
 int32_t rncv_xml_hint_find_with(const rncv_file *files, const char *const *paths, size_t count, int32_t clause, uint32_t datatypes, rncv_xml_hint *hint) {
-    if (files == NULL || count == 0 || hint == NULL || !is_set(datatypes)) {
+    if (count == 0 || !are_there(files, count) || hint == NULL || !is_set(datatypes)) {
         return RNCV_MISUSE;
     }
     find_hint(hint_files(files, paths, count), count, clause, datatypes, hint);
@@ -442,7 +451,7 @@ int32_t rncv_xml_judge_open(const char *path, const rncv_xml_mapping *mappings, 
 }
 
 int32_t rncv_xml_judge_new_with(rncv_schema *schema, const rncv_file *files, size_t count, uint32_t datatypes, rncv_xml_judge *judge) {
-    if (schema == NULL || judge == NULL || is_busy(judge) || (files == NULL && count > 0) || !is_set(datatypes)) {
+    if (schema == NULL || judge == NULL || is_busy(judge) || !are_there(files, count) || !is_set(datatypes)) {
         return RNCV_MISUSE;
     }
     struct schema_files read;

@@ -267,6 +267,8 @@ static void misuse(rncv_xml_judge *judge) {
     rncv_schema schema = RNCV_NOTHING;
     rncv_fault refused = {1, -1, -1, -1, -1};
     rncv_file file = {NULL, 0, NULL, 0};
+    rncv_file good = {(const uint8_t *)"", 0, (const uint8_t *)"element a { text }", 18};
+    rncv_file incomplete[] = {{NULL, 1, (const uint8_t *)"", 0}, {NULL, 0, NULL, 1}};
     rncv_xml_hint hint;
     int32_t changed = 7;
     CHECK(rncv_xml_judge_bytes(&nothing, "", 0, &answer) == RNCV_MISUSE && answer.verdict == RNCV_XML_FAILED && answer.message[0] == '\0');
@@ -285,6 +287,12 @@ static void misuse(rncv_xml_judge *judge) {
     CHECK(rncv_xml_files_explain(&files, &refused, &fault) == RNCV_MISUSE && rncv_xml_files_explain(NULL, NULL, NULL) == RNCV_MISUSE);
     CHECK(rncv_xml_hint_find(NULL, NULL, 1, 15, &hint) == RNCV_MISUSE && rncv_xml_hint_find(&file, NULL, 0, 15, &hint) == RNCV_MISUSE);
     CHECK(rncv_xml_hint_find(&file, NULL, 1, 15, NULL) == RNCV_MISUSE);
+    CHECK(rncv_compile(&good, 1, &schema, &refused) == RNCV_DONE);
+    for (size_t at = 0; at < 2; at++) {
+        CHECK(rncv_xml_hint_find(&incomplete[at], NULL, 1, 15, &hint) == RNCV_MISUSE);
+        CHECK(rncv_xml_judge_new(&schema, &incomplete[at], 1, &nothing) == RNCV_MISUSE && nothing.hidden == NULL);
+    }
+    rncv_schema_free(&schema);
     CHECK(rncv_xml_annotations_blank(NULL, 1, &changed) == RNCV_MISUSE && rncv_xml_annotations_blank(NULL, 0, NULL) == RNCV_MISUSE && changed == 7);
     rncv_xml_judge_free(NULL);
     rncv_xml_judge_free(&nothing);
