@@ -196,7 +196,7 @@ static bool list(struct found *found, rncv_xml_files *files) {
 /* The status for files that were not collected. */
 static int32_t status_of_problem(struct schema_files *files, rncv_xml_fault *fault) {
     int32_t status = files->failed ? RNCV_MEMORY : files->problem_status == STATUS_REFUSED ? RNCV_REFUSED : RNCV_XML_UNREAD;
-    if (fault != NULL && !files->failed) {
+    if (!files->failed) {
         fault->path = taken(&files->problem_path);
         fault->message = taken(&files->problem);
         fault->line = files->problem_place.line;
@@ -245,16 +245,22 @@ int32_t rncv_xml_files_find(const char *path, const rncv_xml_mapping *mappings, 
     if (path == NULL || files == NULL || (mappings == NULL && count > 0)) {
         return RNCV_MISUSE;
     }
-    rncv_xml_fault_free(fault);
     /* for the program this name is standard input */
     const char *given = strcmp(path, "-") == 0 ? "./-" : path;
+    rncv_xml_fault found = RNCV_XML_NO_FAULT;
     int32_t status;
     struct mapping *copies = mapped(mappings, count, &status);
     if (status == RNCV_DONE) {
         struct schema_request request = {&given, 1, copies, count, NULL, NULL, false, false, 0};
-        status = collect(&request, files, fault);
+        status = collect(&request, files, &found);
     }
     free(copies);
+    if (fault == NULL || status == RNCV_MISUSE) {
+        rncv_xml_fault_free(&found);
+    } else {
+        rncv_xml_fault_free(fault); /* not before: the path and the mappings may be its texts */
+        *fault = found;
+    }
     return status;
 }
 

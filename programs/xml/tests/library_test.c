@@ -343,6 +343,7 @@ static void files_by_hand(void) {
 /* Schemas that no judge is made of. What the handle held stays. */
 static void refused_schemas(rncv_xml_judge *judge) {
     rncv_xml_fault fault = RNCV_XML_NO_FAULT;
+    rncv_xml_mapping unmapped = {NULL, "s.rnc"};
     write_file("cut.rnc", "element a {\n  empty");
     CHECK(rncv_xml_judge_open("cut.rnc", NULL, 0, judge, &fault) == RNCV_REFUSED && fault.clause == 6 && fault.line == 2 && fault.column == 8);
     CHECK(strcmp(fault.path, "cut.rnc") == 0 && begins(fault.message, "S6 ") && fault.missing == NULL);
@@ -353,6 +354,8 @@ static void refused_schemas(rncv_xml_judge *judge) {
     CHECK(rncv_xml_judge_open("./half.rnc", NULL, 0, judge, &fault) == RNCV_REFUSED && fault.clause == 1 && strcmp(fault.missing, "lost.rnc") == 0);
     CHECK(fault.line == 1 && fault.column == 9 && strcmp(fault.path, "./half.rnc") == 0);
     CHECK(rncv_xml_judge_open("./half.rnc", NULL, 0, judge, NULL) == RNCV_REFUSED);
+    CHECK(rncv_xml_judge_open("s.rnc", &unmapped, 1, judge, &fault) == RNCV_MISUSE && fault.clause == 1 && fault.message != NULL);
+    CHECK(rncv_xml_judge_open(fault.path, NULL, 0, judge, &fault) == RNCV_REFUSED && strcmp(fault.path, "./half.rnc") == 0); /* its own text */
     write_file("half.rnc", "external ''\n");
     CHECK(rncv_xml_judge_open("half.rnc", NULL, 0, judge, &fault) == RNCV_REFUSED && fault.clause == 1 && strcmp(fault.missing, "") == 0);
     judge_row(judge, &rows[0]);
