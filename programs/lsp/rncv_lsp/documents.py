@@ -10,7 +10,7 @@ import urllib.parse
 from typing import Any, Dict, List, Optional, Tuple
 
 from rncv_lsp.rpc import INVALID_PARAMS, RpcFault, member
-from rncv_lsp.texts import Text
+from rncv_lsp.texts import Text, unmarked
 from rncv_lsp.xml_prolog import Model, models_in
 
 SCHEMA_LANGUAGES = ("rnc", "relaxng-compact", "relax-ng-compact", "relaxng", "rnc-mode")
@@ -49,8 +49,8 @@ class Document:
 
     @functools.cached_property
     def content(self) -> bytes:
-        """The first bytes that the document would have as a file in UTF-8: as many as a file of a schema may have, and more."""
-        return self.lines.slice(0, CONTENT_LENGTH).encode("utf-8", "surrogatepass")
+        """The first bytes that the document would have as a file of a schema in UTF-8: as many as one may have, and more."""
+        return unmarked(self.lines.slice(0, CONTENT_LENGTH)).encode("utf-8", "surrogatepass")
 
     @functools.cached_property
     def models(self) -> Tuple[Model, ...]:

@@ -1,6 +1,7 @@
 """The files of a schema: the open ones as they are in the client, the others from the disk. Nothing is fetched."""
 from __future__ import annotations
 
+import codecs
 import dataclasses
 import functools
 import os
@@ -55,13 +56,14 @@ class Disk:
         self._known: Dict[str, Tuple[Tuple[int, ...], SchemaFile]] = {}
 
     def find(self, path: str) -> Optional[SchemaFile]:
-        """The file at a path; None if there is no file or it cannot be read. Reads at most one byte more than a file may have."""
+        """The file at a path, without a byte order mark; None if there is no file or it cannot be read. Keeps at most one byte more than a file may have."""
         state, known = state_of(path), self._known.get(path)
         if state is None or (known is not None and known[0] == state):
             return known[1] if state and known else None
         try:
             with open(path, "rb") as file:
-                fresh = SchemaFile(os.path.realpath(path), path, file.read(FILE_BYTES + 1))
+                content = file.read(len(codecs.BOM_UTF8) + FILE_BYTES + 1).removeprefix(codecs.BOM_UTF8)
+            fresh = SchemaFile(os.path.realpath(path), path, content[:FILE_BYTES + 1])
         except OSError:
             return None
         self._known[path] = state, fresh

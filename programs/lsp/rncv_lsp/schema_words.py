@@ -7,6 +7,7 @@ from typing import Iterator, Optional, Sequence, Tuple
 
 from rncv_lsp.jobs import IDLE
 from rncv_lsp.outside import ESCAPE, TOKEN, NoToken, Token, meaning, tokens
+from rncv_lsp.texts import unmarked
 
 FILE_BYTES = 1_048_576
 # Behind so many tokens the thread gives way to the one that answers.
@@ -25,6 +26,7 @@ class Mention:
 @functools.lru_cache(maxsize=4)
 def tokens_of(text: str) -> Tuple[Token, ...]:
     """The tokens of a text. If no token begins at a character, the character is skipped, so that a file that is being edited keeps its mentions."""
+    text = unmarked(text)
     if "\\x" not in text:
         return tuple(plain_tokens(text))
     try:
@@ -35,7 +37,7 @@ def tokens_of(text: str) -> Tuple[Token, ...]:
 
 def plain_tokens(text: str, gives_way: bool = False) -> Iterator[Token]:
     """The tokens of a text without escapes. The thread gives way to the one that answers, if it has no lock and is told so."""
-    for number, found in enumerate(TOKEN.finditer(text)):
+    for number, found in enumerate(TOKEN.finditer(unmarked(text))):
         kind = found.lastgroup or ""
         if kind != "blank":
             yield Token(kind, meaning(kind, found[0]), *found.span())

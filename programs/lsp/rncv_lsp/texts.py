@@ -9,9 +9,15 @@ import re
 from typing import Any, Dict, Iterator, List, Optional, Tuple
 
 LINE_END = re.compile("\r\n|\r|\n")
+MARK = "\ufeff"
 # For each encoding: the codec, and the width of one unit in bytes.
 CODECS = {"utf-8": ("utf-8", 1), "utf-16": ("utf-16-le", 2), "utf-32": ("utf-32-le", 4)}
 PIECE_LENGTH = 4_096
+
+
+def unmarked(text: str) -> str:
+    """The text with a blank in place of a byte order mark, so that places stay."""
+    return " " + text[1:] if text.startswith(MARK) else text
 
 
 def units(text: str, encoding: str) -> int:

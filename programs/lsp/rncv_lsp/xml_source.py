@@ -7,7 +7,7 @@ import re
 import xml.parsers.expat
 from typing import Callable, Iterator, Optional, Tuple
 
-from rncv_lsp.texts import Text
+from rncv_lsp.texts import MARK, Text
 
 PIECE_BYTES = 65_536
 PROLOG_BYTES = 1_048_576
@@ -16,7 +16,7 @@ BLANK = "[ \t\r\n]"
 # The encoding in an XML declaration that is good otherwise. The parser reports any other declaration.
 DECLARED = re.compile(rf"""<\?xml{BLANK}+version{BLANK}*={BLANK}*(?:"[^"<>]*"|'[^'<>]*')({BLANK}+encoding{BLANK}*={BLANK}*"""
                       rf"""(?:"[A-Za-z][-._A-Za-z0-9]*"|'[A-Za-z][-._A-Za-z0-9]*'))(?={BLANK}*\?>|{BLANK}+standalone)""")
-MARK, NO_CHARACTER = "\ufeff", "\uffff"
+NO_CHARACTER = "\uffff"
 
 Place = Tuple[int, int]
 Cancelled = Callable[[], bool]

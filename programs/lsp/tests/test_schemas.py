@@ -217,6 +217,20 @@ class Files(WithServer):
         os.remove(self.folder / "parts/b.rnc")
         self.assertEqual(span(self.client.codes(main, ["S1"])[0]), (0, 8, 0, 21))
 
+    def test_a_byte_order_mark(self):
+        part, main = self.write("parts/b.rnc", "\ufeffb = element b { text }"), self.uri("main.rnc")
+        self.client.open(main, self.MAIN)
+        self.assertEqual(self.client.found(main), [])
+        self.client.change(main, 2, "\ufeff" + self.MAIN)
+        self.assertEqual(self.client.found(main, 2), [])
+        self.client.change(main, 3, "\ufeff" + self.MAIN.replace("b.", "c."))
+        self.assertEqual(span(self.client.found(main, 3)[0]), (0, 9, 0, 22))
+        self.write("parts/b.rnc", "\ufeffb = text text")
+        self.client.change(main, 4, "\ufeffstart = b include 'parts/b.rnc'")
+        self.assertEqual(span(self.client.codes(part, ["S6"])[0]), (0, 9, 0, 13))
+        self.client.change(main, 5, "\ufeffstart text")
+        self.assertEqual(span(self.client.found(main, 5)[0]), (0, 7, 0, 11))
+
     def test_missing_files(self):
         main = self.uri("main.rnc")
         self.client.open(main, 'include "b.rnc"\ninclude "c" ~ \'.rnc\'\n[ d [ "d.rnc" ]   ] a = external "http://none.example/x.rnc"')
