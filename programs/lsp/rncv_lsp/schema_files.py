@@ -130,16 +130,12 @@ def ways(words: str, path: str) -> Iterator[str]:
     path if they are not text, or if the file would have to be fetched."""
     if any("\ud800" <= letter <= "\udfff" for letter in words):
         return
-    if SCHEME.match(words):
-        local = path_of(words)
-        if local is not None:
-            yield os.path.normpath(local)
-        return
-    if not words or not os.path.isabs(path):
-        return
-    folder = os.path.dirname(path)
-    for name in dict.fromkeys((words, urllib.parse.unquote(words))):
-        yield os.path.normpath(os.path.join(folder, name))
+    has_scheme = SCHEME.match(words) is not None
+    names = (path_of(words) if has_scheme else words, None if has_scheme else urllib.parse.unquote(words))
+    for name in dict.fromkeys(filter(None, names)):
+        place = os.path.join(os.path.dirname(path), name)
+        if os.path.isabs(place):
+            yield os.path.normpath(place)
 
 
 def collected(main: SchemaFile, view: FileView) -> SchemaSet:

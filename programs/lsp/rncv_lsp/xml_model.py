@@ -44,10 +44,7 @@ def not_served(document: Document, view: FileView) -> Tuple[Finding, ...]:
 
 def path_beside(document: Document, href: str) -> Optional[str]:
     """The path of a reference, relative to the document. The reference is read as a URI, or literally if only that is a file."""
-    if SCHEME.match(href):
-        return path_of(href)
-    if document.path is None:
-        return href if os.path.isabs(href) else None
-    folder = os.path.dirname(document.path)
-    places = [os.path.normpath(os.path.join(folder, name)) for name in (urllib.parse.unquote(href), href)]
-    return next((place for place in places if os.path.isfile(place)), places[0])
+    names = [path_of(href)] if SCHEME.match(href) else [urllib.parse.unquote(href), href]
+    places = [os.path.join(os.path.dirname(document.path or ""), name) for name in names if name is not None]
+    paths = [os.path.normpath(place) for place in places if os.path.isabs(place)]
+    return next((path for path in paths if os.path.isfile(path)), paths[0] if paths else None)

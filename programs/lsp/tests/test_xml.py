@@ -213,6 +213,7 @@ class Schemas(WithServer):
         uri, version = self.uri("d/e/a.xml"), 0
         for words, is_found in ((f'{kind} href="../s.txt"', True), ('href="../s.txt"', False), ("href='../s%2520%C3%A9.rnc'", True),
                                 ('href="../s%20\u00e9.rnc"', True), (f'href="{self.uri("d/s.txt")}" {kind}', True), ('href="../s.txt" type="text/css"', False),
+                                (f'href="file:../s.txt" {kind}', True),
                                 ("href='../s%2520%C3%A9.rnc#part'", True), ("title='no' href = '&#x2e;./s.txt' " + kind.replace('"', "'"), True),
                                 (f'href="s.rng" type="application/xml"?><?xml-model href="../s.txt" {kind}', True)):
             version += 1
