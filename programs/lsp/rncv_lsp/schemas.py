@@ -11,9 +11,11 @@ from rncv_lsp.findings import ERROR, INFORMATION, Finding, first_line
 from rncv_lsp.outside import rncv
 from rncv_lsp.schema_files import MAIN, SchemaFile, SchemaSet, Trouble
 from rncv_lsp.schema_words import end_of_token, has_start
+from rncv_lsp.xml_prolog import RELAX_NG_NAMESPACE
 
 PART_HINT = "if this file is a part of another schema, open that one too"
 XML_SYNTAX = "is in the XML syntax of RELAX NG, which is not served: `trang` converts it to the compact syntax"
+OTHER_XML = "is XML, and no schema of RELAX NG"
 # What rncv-profile writes into a copy that accepts more or less than the original.
 COPY_MARK = re.compile(r"^# rncv-profile: ([0-9]{1,9}) datatypes? (loosened|tightened), see ([^\r\n]*)", re.M)
 
@@ -113,6 +115,6 @@ def refusal(schema: SchemaSet, outcome: Outcome) -> Optional[str]:
         return None
     file, finding = found[0]
     if file.lines.begins_with_tag:
-        return f"the schema {file.path} {XML_SYNTAX}"
+        return f"the schema {file.path} {XML_SYNTAX if RELAX_NG_NAMESPACE in file.lines.text else OTHER_XML}"
     place = file.lines.position(finding.start, "utf-32")
     return f"the schema is refused: {file.path}:{place['line'] + 1}:{place['character'] + 1}: {finding.message}"

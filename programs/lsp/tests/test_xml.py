@@ -245,7 +245,12 @@ class Schemas(WithServer):
         self.client.change(uri, version + 2, "<?xml-model href='s.rng' type='application/relax-ng-compact-syntax'?><b/>")
         self.assertEqual([(reported["severity"], reported["message"]) for reported in self.client.found(uri, version + 2)], [
             (1, f"the schema {self.folder / 'd/s.rng'} is in the XML syntax of RELAX NG, which is not served: `trang` converts it to the compact syntax")])
+        self.write("d/s.rnc", "<schema xmlns='http://www.w3.org/2001/XMLSchema'/>")
+        self.client.change(uri, version + 3, "<?xml-model href='s.rnc'?><b/>")
+        self.assertEqual([reported["message"] for reported in self.client.found(uri, version + 3)], [
+            f"the schema {self.folder / 'd/s.rnc'} is XML, and no schema of RELAX NG"])
         self.write("d/s.rnc", "element b { empty }")
+        version += 1
         for text in ("<?xml-model href='s.rng'?><?xml-model href='s.rnc'?><b/>",
                      "<?xml-model href='s.xsd' schematypens='http://www.w3.org/2001/XMLSchema'?><b/>",
                      "<?xml-model href='s.rng' schematypens='http://purl.oclc.org/dsdl/schematron'?><b/>", "<?xml-model href=''?><b/>"):
