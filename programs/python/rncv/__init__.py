@@ -259,19 +259,22 @@ class Validator:
         most = operator.index(hints)
         if most < 0:
             raise ValueError(f"hints is how many there are at most, and not {most}")
-        with self._lock:
-            if self._closed or self._document is not None:
-                self._want_free()
-            judge = self._judge or self._new_judge()
-            self._document = _in_progress
+        judging, judge = _Judging(), None
         try:
-            judge.want_ids(bool(ids))
-            verdict = judge.of_bytes(document) if type(document) is bytes and not most else _judged_xml(judge, document, most)
-        finally:
             with self._lock:
-                self._document = None
-                if self._closed:
-                    judge.free()
+                if self._closed or self._document is not None:
+                    self._want_free()
+                ready = self._judge or self._new_judge()
+                self._document, judge = weakref.ref(judging), ready
+            ready.want_ids(bool(ids))
+            verdict = ready.of_bytes(document) if type(document) is bytes and not most else _judged_xml(ready, document, most)
+        finally:
+            # If the handler of a signal raises an exception here, `judging` is gone with this call, and the validator can judge the next document too.
+            with self._lock:
+                if judge is not None:
+                    self._document = None
+                    if self._closed:
+                        judge.free()
         if self._closed:
             self._want_open()
         return verdict
@@ -336,7 +339,7 @@ class Validator:
     def close(self) -> None:
         """Frees the schema, and drops a document in progress. A second call does nothing."""
         with self._lock:
-            is_judging = self._document is _in_progress
+            is_judging = self._document is not None and isinstance(self._document(), _Judging)
             self._closed, self._document = True, None
             self._free()
             # A judge that is judging is freed at the end of that call.
@@ -1019,9 +1022,8 @@ def _is_buffer(document: Any) -> bool:
     return True
 
 
-def _in_progress() -> bool:
+class _Judging:
     """Takes the place of a document while an XML document is judged."""
-    return True
 
 
 def _judged_xml(judge: _xml.Judge, document: Any, hints: int) -> XmlVerdict:

@@ -501,6 +501,34 @@ class Errors(unittest.TestCase):
         with mock.patch.object(_xml._Source, "_fill", fill), self.assertRaises(RuntimeError):
             self.validator.validate_xml(io.BytesIO(GOOD))
 
+    def test_exceptions_between_two_steps(self):
+        """The handler of a signal may raise an exception when the lock is taken or let go. The validator can judge the next document."""
+        class Lock:
+            def __init__(self, steps):
+                self.steps, self.lock = steps, threading.RLock()
+
+            def step(self):
+                self.steps -= 1
+                if self.steps == 0:
+                    raise InterruptedError
+
+            def __enter__(self):
+                self.step()
+                self.lock.acquire()
+
+            def __exit__(self, *_):
+                self.lock.release()
+                self.step()
+
+        lock = self.validator._lock
+        self.addCleanup(setattr, self.validator, "_lock", lock)
+        for steps in range(1, 5):
+            self.validator._lock = Lock(steps)
+            self.assertRaises(InterruptedError, self.validator.validate_xml, GOOD)
+            self.validator._lock = lock
+            self.assertTrue(self.validator.validate_xml(GOOD), steps)
+            self.assertTrue(self.validator.simple_text())
+
     @unittest.skipUnless(hasattr(signal, "pthread_kill"), "no signals for threads")
     def test_signals(self):
         """Ctrl-C stops a long document, in memory, in a file and in a pipe."""
