@@ -235,6 +235,15 @@ static bool take_color(struct options *options, const char *value) {
     return true;
 }
 
+/* Takes the list of documents. There is one, so that none of another is left out unnoticed. */
+static bool take_list(struct options *options, const char *value) {
+    if (options->files_from != NULL) {
+        return is_wrong(options, "--files-from names one list, and '%s' is a second one", value);
+    }
+    options->files_from = value;
+    return true;
+}
+
 static bool take_value(struct options *options, enum name name, const char *value) {
     switch (name) {
     case NAME_JOBS:
@@ -242,8 +251,7 @@ static bool take_value(struct options *options, enum name name, const char *valu
     case NAME_GLOB:
         return add_word(options, &options->globs, &options->glob_count, value);
     case NAME_FILES_FROM:
-        options->files_from = value;
-        return true;
+        return take_list(options, value);
     case NAME_STDIN_NAME:
         options->input_name = value;
         return true;
