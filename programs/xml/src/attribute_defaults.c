@@ -55,6 +55,7 @@ static void keep_default(struct declarations *declarations, const xmlChar *eleme
     }
     *kept = (struct namespace_default){strdup((const char *)element), strdup((const char *)name), strdup(bytes_text(&unmarked))};
     bool is_lost = whole.failed || unmarked.failed;
+    declarations->feed->defaults += unmarked.length;
     bytes_free(&whole);
     bytes_free(&unmarked);
     if (is_lost || kept->element == NULL || kept->name == NULL || kept->value == NULL) {

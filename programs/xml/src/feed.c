@@ -250,7 +250,7 @@ static void forget(struct feed *feed) {
 
 bool feed_is_over(const struct feed *feed) {
     size_t own = feed->text.capacity + feed->room.capacity + feed->models.separators.capacity + shortening_held(&feed->shortening);
-    return parser_memory_held() + own + feed->decoding.first.capacity + feed->kept > feed->most;
+    return parser_memory_held() + own + feed->decoding.first.capacity + feed->defaults + feed->kept > feed->most;
 }
 
 const char *feed_raising(const struct feed *feed) {

@@ -73,6 +73,7 @@ struct feed {
     size_t most;        /* the bytes that may be held of the document */
     size_t most_depth;  /* how many elements may be open, and entities in one another */
     size_t most_attributes; /* that a tag may have, with declarations; the same for the choices of a declaration: libxml2 compares them in pairs */
+    size_t defaults;    /* the bytes that are kept of namespaces by default */
     size_t kept;        /* the bytes that the receiver keeps, when it was asked last */
     void (*keep)(void *context);        /* is called before text that was read is forgotten */
     void (*before_read)(void *context); /* is called before more of the document is read, which may take long */

@@ -197,6 +197,13 @@ class Lines(InFolder):
         self.write("d.xml", f"<a>{'<b/>' * 400_000}</a>")
         self.assertEqual(self.judge("--max-memory", "1M", "t.rnc", "d.xml"), ("", 0))
 
+    def test_namespaces_by_default_in_memory(self):
+        self.write("t.rnc", "element a { empty }")
+        namespaces = "".join(f"<!ATTLIST b xmlns:p{number} CDATA '{number}{'u' * 40_000}'>" for number in range(1_000))
+        self.write("d.xml", f"<!DOCTYPE a [{namespaces}]><a/>")
+        self.assertEqual(self.judge("t.rnc", "d.xml"), ("", 0))
+        self.assertRegex(self.judge("--max-memory", "70M", "t.rnc", "d.xml")[0], OVER_MEMORY.replace("1,048,576", "73,400,320"))
+
     def test_texts_in_memory(self):
         """A text counts only where the schema tests what it says, so that the library holds it."""
         self.write("free.rnc", "element a { text }")
