@@ -345,6 +345,15 @@ static void judge_documents(struct report *report, struct shared *shared, struct
     }
 }
 
+/* Whether a document was named, or is in a list or a folder. */
+static bool has_documents(const struct report *report) {
+    bool is_one = false;
+    for (size_t at = 0; at < sizeof report->counts / sizeof *report->counts; at++) {
+        is_one |= report->counts[at] > 0;
+    }
+    return is_one;
+}
+
 static void judge_all(struct report *report, struct shared *shared, struct documents *documents) {
     struct schema_files files;
     struct id_types *types = NULL;
@@ -358,6 +367,9 @@ static void judge_all(struct report *report, struct shared *shared, struct docum
             report_note(report, "rncv-xml: the schema is good; no document is named");
         } else {
             report_closing(report, &files);
+            if (!has_documents(report) && report->status == STATUS_VALID) {
+                report_note(report, "rncv-xml: the schema is good; no document is found");
+            }
         }
     }
     rncv_schema_free(&shared->schema);

@@ -523,6 +523,9 @@ class Batches(InFolder):
         self.assertEqual(self.judge("--all", "--files-from=-", "s.rnc", given=b"good.xml\0with blank.xml"), wanted)
         self.assertEqual(self.judge("--files-from", "none", "s.rnc"), ("none: No such file or directory\n", 4))
         self.assertEqual(self.judge("--files-from", "-", "s.rnc", given=b""), ("", 0))
+        (self.folder / "empty").mkdir()
+        for words in (("--files-from=/dev/null", "s.rnc"), ("--recursive", "s.rnc", "empty")):
+            self.assertEqual(self.run_in(RNCV_XML, *words), ("", "rncv-xml: the schema is good; no document is found\n", 0))
         many = b"".join(b"good.xml\n" for _ in range(20_000))
         self.assertEqual(self.judge("--all", "--files-from", "-", "s.rnc", given=many), ("good.xml: valid\n" * 20_000, 0))
 
