@@ -55,7 +55,31 @@ void declarations_free(struct declarations *declarations) {
 }
 
 bool is_in_entity(const struct feed *feed) {
-    return feed->parser->depth > 0 || feed->parser->inputNr > 1 || feed->is_away;
+    bool is_in_parameter = feed->inclusions.count > 0 && feed->parser->inSubset != 0;
+    return feed->parser->depth > 0 || feed->parser->inputNr > 1 || feed->is_away || is_in_parameter;
+}
+
+/* The text of a long entity; NULL: it is not long. */
+static const struct bytes *long_text(const struct declarations *declarations, const xmlEntity *entity) {
+    bool may_be = (declarations->has_long || declarations->has_long_parameter) && entity->content != NULL && entity->length == LEFT_OUT_MARK;
+    return may_be ? left_out_part(&declarations->feed->shortening.left, (struct span){plain(entity->content), LEFT_OUT_MARK}) : NULL;
+}
+
+struct span declarations_text(const struct declarations *declarations, const xmlEntity *entity) {
+    const struct bytes *text = long_text(declarations, entity);
+    return text != NULL ? (struct span){text->data, text->length} : (struct span){plain(entity->content), entity->length > 0 ? (size_t)entity->length : 0};
+}
+
+bool declarations_is_long(const struct declarations *declarations, const xmlEntity *entity) {
+    return long_text(declarations, entity) != NULL;
+}
+
+void declarations_keep_long(struct declarations *declarations, bool is_parameter, struct bytes *text, char mark[LEFT_OUT_MARK + 1]) {
+    if (!left_out_put(&declarations->feed->shortening.left, true, text, mark)) {
+        declarations_out_of_memory(declarations);
+    }
+    declarations->has_long |= !is_parameter;
+    declarations->has_long_parameter |= is_parameter;
 }
 
 bool loads_external(const struct declarations *declarations) {

@@ -57,6 +57,8 @@ struct declarations {
     bool has_blank_references; /* an entity has a reference to a blank other than a space */
     bool has_marks;            /* libxml2 has marks for such references, which may be in attributes from now on */
     bool has_skipped;          /* a reference to an entity that is not declared was passed over */
+    bool has_long;             /* there is a long entity (inclusions.h): what refers to entities is included too, */
+    bool has_long_parameter;   /* .. the same for parameter entities */
     size_t referring;          /* how many general entities refer to others */
     xmlHashTablePtr heights;   /* how many entities are in one another in an entity, and one more; 1: that is being found out */
     struct nested_parameters nested;
@@ -132,6 +134,13 @@ bool is_in_entity(const struct feed *feed);
 
 /* The external entity as an internal one of this type. It is read once. NULL: it was not read, and there is a fault. */
 xmlEntityPtr declarations_loaded(struct declarations *declarations, xmlEntityPtr entity, xmlEntityType type);
+
+/* The text of an internal entity; of a long one libxml2 has a mark. */
+struct span declarations_text(const struct declarations *declarations, const xmlEntity *entity);
+bool declarations_is_long(const struct declarations *declarations, const xmlEntity *entity);
+
+/* Keeps the text of a long entity, which is taken, and writes its mark. */
+void declarations_keep_long(struct declarations *declarations, bool is_parameter, struct bytes *text, char mark[LEFT_OUT_MARK + 1]);
 
 /* The entity of a name, or NULL. */
 xmlEntityPtr declarations_entity_of(struct declarations *declarations, struct span name);

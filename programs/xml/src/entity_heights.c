@@ -46,7 +46,7 @@ static void enter(struct visits *visits, const xmlEntity *entity) {
         visits->visits = more;
         visits->capacity = capacity;
     }
-    visits->visits[visits->count++] = (struct visit){entity, {(const char *)entity->content, (size_t)entity->length}, 0};
+    visits->visits[visits->count++] = (struct visit){entity, declarations_text(visits->declarations, entity), 0};
     know(visits, entity, 1);
 }
 

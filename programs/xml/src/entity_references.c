@@ -2,11 +2,14 @@
 
 #include "entity_balance.h"
 #include "entity_heights.h"
+#include "entity_names.h"
 #include "entity_text.h"
+#include "including.h"
 #include "nested_parameters.h"
 
 #include <libxml/SAX2.h>
 #include <libxml/parserInternals.h>
+#include <limits.h>
 #include <stdlib.h>
 #include <string.h>
 
@@ -23,7 +26,7 @@ enum {
 static bool count_reference(struct declarations *declarations, const xmlEntity *entity) {
     /* libxml2 passes all open namespaces to the parser of the entity */
     uint64_t namespaces = (uint64_t)declarations->feed->parser->nsNr;
-    if (!declarations_count(declarations, REFERENCE_COST + 8 * namespaces + (entity->length > 0 ? (uint64_t)entity->length : 0))) {
+    if (!declarations_count(declarations, REFERENCE_COST + 8 * namespaces + declarations_text(declarations, entity).length)) {
         declarations_refuse_part(declarations, "entities give more than 100 times the document's length, and more than %s bytes");
         return false;
     }
@@ -40,6 +43,18 @@ static bool is_plain(const struct declarations *declarations, const char *text) 
     return !is_in_entity(feed) && feed->parser->instate == XML_PARSER_CONTENT && strpbrk(text, "<&") == NULL && strstr(text, "]]>") == NULL;
 }
 
+static bool open_none(void *context, struct span name, bool is_in_value, struct span *text) {
+    (void)context;
+    (void)name;
+    (void)is_in_value;
+    (void)text;
+    return false;
+}
+
+static void close_none(void *context) {
+    (void)context;
+}
+
 /* The external entity with its text. NULL: it is not read, and there is a fault. */
 static xmlEntityPtr external_of(struct declarations *declarations, xmlEntityPtr entity) {
     if (loads_external(declarations)) {
@@ -48,10 +63,6 @@ static xmlEntityPtr external_of(struct declarations *declarations, xmlEntityPtr 
     fault_set(declarations->feed->fault, FAULT_OUTSIDE, declarations_place(declarations), "external entity '%s' is not loaded: outside the profile",
               plain(entity->SystemID));
     return NULL;
-}
-
-static struct span text_of(const xmlEntity *entity) {
-    return (struct span){plain(entity->content), (size_t)entity->length};
 }
 
 /* The twins of an entity. NULL: out of memory. */
@@ -87,7 +98,7 @@ static bool may_be_put(struct declarations *declarations, xmlEntityPtr entity, b
         return false;
     }
     if (!is_in_value && twin->balance == BALANCE_UNKNOWN) {
-        twin->balance = entity_is_balanced(text_of(entity)) ? BALANCED : UNBALANCED;
+        twin->balance = entity_is_balanced(declarations_text(declarations, entity)) ? BALANCED : UNBALANCED;
     }
     return is_in_value || twin->balance == BALANCED;
 }
@@ -107,12 +118,12 @@ static bool give_text(void *context, struct span name, bool is_in_value, struct 
     if (!may_be_put(declarations, entity, is_in_value) || !count_reference(declarations, entity)) {
         return false;
     }
-    declarations_count_written(declarations, (uint64_t)entity->length);
+    *text = declarations_text(declarations, entity);
+    declarations_count_written(declarations, text->length);
     if (declarations->open_count > declarations_most_levels(declarations)) {
         declarations_refuse_levels(declarations);
     }
     open_twin(declarations, entity->_private);
-    *text = text_of(entity);
     return true;
 }
 
@@ -120,7 +131,10 @@ static bool give_text(void *context, struct span name, bool is_in_value, struct 
 static struct twin *copy_of(struct declarations *declarations, const xmlEntity *entity, struct bytes *text) {
     struct twin *twin = declarations_twin(declarations);
     declarations->written += text->length;
-    if (twin == NULL) {
+    if (text->length > INT_MAX) {
+        declarations_refuse(declarations, "over a limit of this program: an entity has more than 2,147,483,647 bytes");
+    }
+    if (twin == NULL || declarations->feed->fault->kind != FAULT_NONE) {
         return NULL;
     }
     twin->entity = *entity;
@@ -141,9 +155,9 @@ static void write_text(struct declarations *declarations, xmlEntityPtr entity, b
     const struct entity_source source = {give_text, close_twin, declarations};
     open_twin(declarations, entity->_private);
     if (is_in_value) {
-        entity_text_value(text_of(entity), &source, text);
+        entity_text_value(declarations_text(declarations, entity), &source, text);
     } else {
-        entity_text_content(text_of(entity), &source, text);
+        entity_text_content(declarations_text(declarations, entity), &source, text);
     }
     close_twin(declarations);
 }
@@ -151,8 +165,7 @@ static void write_text(struct declarations *declarations, xmlEntityPtr entity, b
 /* Adds what the entity gives in the value of an attribute of the document itself. False: it may not be there, or is left to libxml2. */
 static bool add_value(struct declarations *declarations, xmlEntityPtr entity, struct bytes *to) {
     struct bytes text = NO_BYTES;
-    bool is_marked = declarations->feed->controls.has_marks; /* the text may have some */
-    if (is_marked || !may_be_put(declarations, entity, true)) {
+    if (!may_be_put(declarations, entity, true)) {
         return false;
     }
     write_text(declarations, entity, true, &text);
@@ -182,9 +195,10 @@ static bool has_given_enough(struct declarations *declarations, const xmlEntity 
         declarations->value_at = markup;
         declarations->given = 0;
     }
-    declarations->given += (uint64_t)entity->length;
-    bool is_short = entity->length <= MOST_KNOWN && memchr(entity->content, '&', (size_t)entity->length) == NULL;
-    return declarations->given > MOST_GIVEN && !is_short;
+    struct span text = declarations_text(declarations, entity);
+    declarations->given += text.length;
+    bool is_short = text.length <= MOST_KNOWN && memchr(text.data, '&', text.length) == NULL;
+    return (declarations->given > MOST_GIVEN || text.length > LONGEST_ENTITY) && !is_short;
 }
 
 /* An entity with a mark in the place of what the entity gives in a value. The entity itself: it may not be there, or gives little. libxml2 gets that, since a
@@ -231,7 +245,7 @@ static struct twin *marked_of(struct declarations *declarations, xmlEntityPtr en
         if (is_tall) {
             write_text(declarations, entity, true, &text);
         }
-        entity_text_marked(is_tall ? (struct span){text.data, text.length} : text_of(entity), &marked);
+        entity_text_marked(is_tall ? (struct span){text.data, text.length} : declarations_text(declarations, entity), &marked);
         marked.failed |= text.failed;
         twins->marked = copy_of(declarations, entity, &marked);
     }
@@ -243,7 +257,7 @@ static struct twin *marked_of(struct declarations *declarations, xmlEntityPtr en
 
 /* The entity with the text that libxml2 has to get. If it is tall, the texts of others have to be in it. NULL: there is a fault. */
 static xmlEntityPtr rewritten(struct declarations *declarations, xmlEntityPtr entity, bool is_in_value, bool is_tall) {
-    const struct span text = text_of(entity);
+    const struct span text = declarations_text(declarations, entity);
     bool has_references = memchr(text.data, '<', text.length) != NULL && memchr(text.data, '&', text.length) != NULL;
     bool has_return = memchr(text.data, '\r', text.length) != NULL;
     bool is_for_content = has_return || (has_references && (declarations->has_blank_references || loads_external(declarations)));
@@ -284,8 +298,88 @@ static xmlEntityPtr undeclared(struct declarations *declarations, const xmlChar 
     return count_reference(declarations, &declarations->skipped) ? &declarations->skipped : NULL;
 }
 
+/* An entity that gives nothing in content. */
+static xmlEntityPtr nothing(struct declarations *declarations) {
+    declarations->plain.content = (xmlChar *)declarations->plain.name;
+    return &declarations->plain;
+}
+
+/* Whether libxml2 reads an entity in content as it reads the document: a long one, or one that may refer to one. */
+static bool is_to_include(const struct declarations *declarations, const xmlEntity *entity) {
+    struct span name;
+    struct span text = declarations_text(declarations, entity);
+    return declarations->has_long && (declarations_is_long(declarations, entity) || entity_text_next(&text, &name));
+}
+
+/* Whether the entity may be included where libxml2 is. Else there is a fault. */
+static bool may_include(struct declarations *declarations, const xmlEntity *entity) {
+    const struct feed *feed = declarations->feed;
+    if (!feed_is_read(feed)) {
+        declarations_refuse(declarations, "over a limit of this program: a long entity in an external one");
+    } else if (is_included(&feed->inclusions, entity)) {
+        fault_set(feed->fault, FAULT_MALFORMED, declarations_place(declarations), "malformed XML: recursive entity reference");
+    } else if (feed->inclusions.count >= declarations_most_levels(declarations)) {
+        declarations_refuse_levels(declarations);
+    }
+    return feed->fault->kind == FAULT_NONE;
+}
+
+/* Includes an entity in content. Returns what libxml2 gets in its place. */
+static xmlEntityPtr include(struct declarations *declarations, xmlEntityPtr entity) {
+    static const struct entity_source no_source = {open_none, close_none, NULL};
+    struct span text = declarations_text(declarations, entity);
+    struct bytes own = NO_BYTES;
+    if (!may_include(declarations, entity)) {
+        return NULL;
+    }
+    if (memchr(text.data, '\r', text.length) != NULL) {
+        entity_text_content(text, &no_source, &own);
+        text = (struct span){own.data, own.length};
+    }
+    feed_include(declarations->feed, entity, text, &own);
+    return nothing(declarations);
+}
+
+/* What libxml2 gets for an entity with text. */
+static xmlEntityPtr given_for(struct declarations *declarations, xmlEntityPtr entity, bool is_in_value) {
+    const struct feed *feed = declarations->feed;
+    bool has_many = is_tall(declarations, entity);
+    if (feed->fault->kind != FAULT_NONE) {
+        return NULL;
+    }
+    if (!is_in_value && is_to_include(declarations, entity)) {
+        return include(declarations, entity);
+    }
+    if (is_plain(declarations, (const char *)entity->content)) {
+        declarations->plain.content = entity->content;
+        return &declarations->plain;
+    }
+    if (is_in_value && has_given_enough(declarations, entity)) {
+        xmlEntityPtr shortened = left_out(declarations, entity);
+        if (shortened != entity) {
+            return shortened;
+        }
+    }
+    bool is_written = has_many || declarations_is_long(declarations, entity);
+    return feed->fault->kind == FAULT_NONE ? rewritten(declarations, entity, is_in_value, is_written) : NULL;
+}
+
+/* What libxml2 gets for the secret name behind the text of an entity. */
+static xmlEntityPtr end_of_text(struct declarations *declarations) {
+    struct feed *feed = declarations->feed;
+    if (feed->parser->instate == XML_PARSER_CONTENT) {
+        feed_end_inclusion(feed);
+    } else {
+        feed_refuse_unbalanced(feed);
+    }
+    return feed->fault->kind == FAULT_NONE ? nothing(declarations) : NULL;
+}
+
 xmlEntityPtr declarations_general(struct declarations *declarations, const xmlChar *name) {
     const struct feed *feed = declarations->feed;
+    if (is_end_name(&feed->inclusions, plain(name))) {
+        return end_of_text(declarations);
+    }
     bool is_in_value = feed->parser->instate == XML_PARSER_ATTRIBUTE_VALUE;
     bool is_reference = is_in_value || feed->parser->instate == XML_PARSER_CONTENT; /* libxml2 also asks for an entity that it has just declared */
     xmlEntityPtr entity = feed->fault->kind == FAULT_NONE ? xmlSAX2GetEntity(feed->parser, name) : NULL;
@@ -309,26 +403,13 @@ xmlEntityPtr declarations_general(struct declarations *declarations, const xmlCh
     if (entity->etype != XML_INTERNAL_GENERAL_ENTITY || entity->content == NULL) {
         return entity;
     }
-    bool has_many = is_tall(declarations, entity);
-    if (feed->fault->kind != FAULT_NONE) {
-        return NULL;
-    }
-    if (is_plain(declarations, (const char *)entity->content)) {
-        declarations->plain.content = entity->content;
-        return &declarations->plain;
-    }
-    if (is_in_value && has_given_enough(declarations, entity)) {
-        xmlEntityPtr shortened = left_out(declarations, entity);
-        if (shortened != entity) {
-            return shortened;
-        }
-    }
-    return feed->fault->kind == FAULT_NONE ? rewritten(declarations, entity, is_in_value, has_many) : NULL;
+    return given_for(declarations, entity, is_in_value);
 }
 
 /* Whether a step of libxml2 may end with a reference. It may if a declaration or the beginning of the subset is before it. Behind another reference, and at the
  * beginning of an entity, it is among the blanks of the next step, as any number of references may be. */
-static bool may_end_step(const xmlParserCtxt *parser, const xmlChar *name) {
+static bool may_end_step(const struct feed *feed, const xmlChar *name) {
+    const xmlParserCtxt *parser = feed->parser;
     const xmlParserInput *input = parser->input;
     size_t length = strlen("%;") + strlen((const char *)name);
     if (parser->depth > 0) {
@@ -338,7 +419,10 @@ static bool may_end_step(const xmlParserCtxt *parser, const xmlChar *name) {
     while (at > input->base && strchr(" \t\n\r", at[-1]) != NULL) {
         at--;
     }
-    return at > input->base ? at[-1] == '>' || at[-1] == '[' : parser->inputNr == 1;
+    if (at > input->base) {
+        return at[-1] == '>' || at[-1] == '[';
+    }
+    return parser->inputNr == 1 && input->consumed != feed->taken_back;
 }
 
 /* An entity without text. */
@@ -396,9 +480,27 @@ static xmlEntityPtr in_turn(struct declarations *declarations, xmlEntityPtr enti
     return twin->is_next ? &twin->entity : first;
 }
 
+/* The same as is_to_include, for a parameter entity. */
+static bool is_parameter_to_include(const struct declarations *declarations, const xmlEntity *entity) {
+    struct span text = declarations_text(declarations, entity);
+    bool may_refer = feed_is_read(declarations->feed) && memchr(text.data, '%', text.length) != NULL;
+    return declarations->has_long_parameter && (may_refer || declarations_is_long(declarations, entity));
+}
+
+static void include_parameter(struct declarations *declarations, const xmlEntity *entity) {
+    struct bytes own = NO_BYTES;
+    if (may_include(declarations, entity)) {
+        feed_include(declarations->feed, entity, declarations_text(declarations, entity), &own);
+    }
+}
+
 /* What libxml2 is to read for an internal parameter entity. */
 static xmlEntityPtr internal(struct declarations *declarations, xmlEntityPtr entity) {
     if (!count_reference(declarations, entity)) {
+        return empty(declarations);
+    }
+    if (is_parameter_to_include(declarations, entity)) {
+        include_parameter(declarations, entity);
         return empty(declarations);
     }
     if (declarations->feed->parser->depth > 0) {
@@ -454,11 +556,16 @@ xmlEntityPtr declarations_parameter(struct declarations *declarations, const xml
     if (feed->fault->kind != FAULT_NONE) {
         return empty(declarations);
     }
+    if (is_end_name(&feed->inclusions, plain(name))) {
+        declarations->is_second ^= may_end_step(feed, name);
+        feed_end_inclusion(declarations->feed);
+        return empty(declarations);
+    }
     xmlEntityPtr entity = xmlSAX2GetParameterEntity(feed->parser, name);
     if (is_after_declaration(feed->parser)) {
         return entity;
     }
-    declarations->is_second ^= may_end_step(feed->parser, name);
+    declarations->is_second ^= may_end_step(feed, name);
     if (declarations->has_dropped) {
         declarations_refuse(declarations, "a reference behind a parameter entity whose system identifier is no URI: outside the profile");
     }

@@ -124,14 +124,26 @@ size_t entity_text_section(struct span text) {
     return section == NULL ? 0 : section_length(text, section);
 }
 
+/* How many bytes at the start of the text begin neither references nor markup. */
+static size_t plain_length(struct span text) {
+    size_t length = 0;
+    while (length < text.length && text.data[length] != '&' && text.data[length] != '<') {
+        length++;
+    }
+    return length;
+}
+
 bool entity_text_next(struct span *rest, struct span *name) {
     bool is_found = false;
+    size_t plain = plain_length(*rest);
+    *rest = (struct span){rest->data + plain, rest->length - plain};
     while (rest->length > 0 && !is_found) {
         struct reference reference = reference_at(*rest);
         const struct section *section = rest->data[0] == '<' ? section_at(*rest) : NULL;
         size_t length = reference.length > 0 ? reference.length : section != NULL ? section_length(*rest, section) : 1;
         is_found = reference.length > 0 && !reference.is_code;
         *name = (struct span){rest->data + 1, is_found ? length - 2 : 0};
+        length += is_found ? 0 : plain_length(span_from(*rest, length));
         *rest = (struct span){rest->data + length, rest->length - length};
     }
     return is_found;

@@ -5,6 +5,7 @@
 #include "entity_names.h"
 #include "entity_references.h"
 #include "entity_text.h"
+#include "including.h"
 #include "known_names.h"
 #include "parser_memory.h"
 #include "parser_words.h"
@@ -27,6 +28,7 @@ enum {
 
 struct reader {
     struct feed feed;
+    char mark[LEFT_OUT_MARK + 1]; /* of a long entity that is declared */
     struct declarations declarations;
     struct withdrawn withdrawn;
     struct event_sink sink;
@@ -57,7 +59,6 @@ struct reader {
     struct known_names names; /* at the end, since most of it is not set at first */
 };
 
-static const char long_entity[] = "over a limit of this program: an entity has more than 2,147,483,647 bytes";
 static const char control_character[] = "a control character by a reference, which XML 1.1 has: outside the profile";
 
 /* The reader of this thread's document. libxml2 reports some errors without it. */
@@ -269,6 +270,7 @@ static void take_text(void *context, const xmlChar *text, int size) {
 static void take_section(void *context, const xmlChar *text, int size) {
     struct reader *reader = context;
     bool is_part = section_is_part(&reader->feed.section, feed_offset(&reader->feed), &reader->feed.skew);
+    feed_check_inclusion(&reader->feed);
     if (reader->feed.controls.has_marks) {
         take_marked_text(context, text, size);
     } else {
@@ -531,18 +533,22 @@ static void clear_values(struct reader *reader, int count, const xmlChar **attri
     }
 }
 
-/* The value without marks. */
+/* The value, which has no marks. If the receiver takes no control characters in it, there is a fault. */
+static struct span taken(struct reader *reader, struct span value) {
+    if (has_controls(value)) {
+        takes_control(reader, reader->start.position, value);
+    }
+    return value;
+}
+
+/* The value without marks. One of which libxml2 has a part is left: it is written whole before. */
 static struct span unmarked(struct reader *reader, struct span value) {
+    const struct left_out *left = &reader->feed.shortening.left;
     const struct bytes *values = &reader->values;
     size_t begin = values->length;
-    if (!unmark(reader, value, NULL, &reader->values)) {
-        return value;
-    }
-    struct span found = {values->data + begin, values->length - begin};
-    if (has_controls(found)) {
-        takes_control(reader, reader->start.position, found);
-    }
-    return found;
+    bool is_part = may_have_marks(reader) && has_left_out(left) && left_out_is_in(left, value);
+    bool is_marked = !is_part && unmark(reader, value, NULL, &reader->values);
+    return is_marked ? taken(reader, (struct span){values->data + begin, values->length - begin}) : value;
 }
 
 /* How many bytes the values of the tag have as a whole of which libxml2 has got a part. */
@@ -556,26 +562,39 @@ static size_t whole_length(const struct reader *reader) {
     return length;
 }
 
+/* Adds a value as a whole, for which there is room, without marks for blanks and control characters. Returns it. */
+static struct span unmarked_whole(struct reader *reader, struct span value, bool has_tokens) {
+    const struct left_out *left = &reader->feed.shortening.left;
+    struct bytes *whole = &reader->feed.shortening.whole;
+    size_t begin = whole->length;
+    if (has_tokens) {
+        left_out_add_tokens(left, value, whole);
+    } else {
+        left_out_add(left, value, whole);
+    }
+    struct span found = {whole->data + begin, whole->length - begin};
+    if (!may_have_marks(reader) || !unmark(reader, found, NULL, whole)) {
+        return found;
+    }
+    size_t length = whole->length - begin - found.length;
+    memmove(whole->data + begin, whole->data + begin + found.length, length);
+    whole->length = begin + length;
+    return taken(reader, (struct span){whole->data + begin, length});
+}
+
 /* Writes the values of a tag whole of which libxml2 has got a part. */
 static void write_whole(struct reader *reader, const xmlChar **attributes) {
     const struct left_out *left = &reader->feed.shortening.left;
     struct bytes *whole = &reader->feed.shortening.whole;
     size_t length = whole_length(reader);
-    if (!bytes_reserve(whole, length)) {
+    if (!bytes_reserve(whole, may_have_marks(reader) ? 2 * length : length)) {
         out_of_memory(reader);
     }
     for (size_t at = 0; at < reader->start.attribute_count && is_good(reader); at++, attributes += 5) {
         struct span *value = &reader->attributes[at].value;
-        size_t begin = whole->length;
-        if (!left_out_is_in(left, *value)) {
-            continue;
+        if (left_out_is_in(left, *value)) {
+            *value = unmarked_whole(reader, *value, is_tokenized(reader, attributes[1], attributes[0]));
         }
-        if (is_tokenized(reader, attributes[1], attributes[0])) {
-            left_out_add_tokens(left, *value, whole);
-        } else {
-            left_out_add(left, *value, whole);
-        }
-        *value = (struct span){whole->data + begin, whole->length - begin};
     }
     count_defaults(reader, length);
     feed_check_memory(&reader->feed, place_of(reader->start.position));
@@ -926,10 +945,13 @@ static void take_end(void *context, const xmlChar *local, const xmlChar *prefix,
     hand_end(reader, end_position(reader), &reader->names.slots[place].name);
 }
 
-/* The position of an instruction. */
+/* The position of an instruction. One of a parameter entity is at the reference. */
 static struct position instruction_position(struct reader *reader) {
     struct feed *feed = &reader->feed;
     uint64_t end = feed_offset(feed);
+    if (!feed_is_read(feed) && !feed->is_away && feed->parser->inSubset != 0) {
+        return (struct position){feed_last(feed, end, "%"), 0};
+    }
     uint64_t begin = feed_settle(feed, end);
     if (feed_is_read(&reader->feed)) {
         while (blanks_of((char[]){feed_byte(feed, begin)}, 1) == 1) {
@@ -971,7 +993,8 @@ static void take_instruction(void *context, const xmlChar *target, const xmlChar
     struct reader *reader = context;
     struct span span = span_of(data);
     size_t mark = strlen(instruction_mark);
-    if (!feed_is_read(&reader->feed) && span.length > mark && memcmp(span.data, instruction_mark, mark) == 0 && span.data[mark] == '%') {
+    bool is_in_entity = !feed_is_read(&reader->feed) || reader->feed.inclusions.count > 0;
+    if (is_in_entity && span.length > mark && memcmp(span.data, instruction_mark, mark) == 0 && span.data[mark] == '%') {
         span = (struct span){span.data + mark, span.length - mark};
     }
     if (!feed_is_read(&reader->feed)) {
@@ -979,6 +1002,7 @@ static void take_instruction(void *context, const xmlChar *target, const xmlChar
         return;
     }
     bool is_part = section_is_part(&reader->feed.section, feed_offset(&reader->feed), &reader->feed.skew);
+    feed_check_inclusion(&reader->feed);
     if (!reader->feed.section.is_continued) {
         hand_good_instruction(reader, whole_name(reader, span_of(target)), span); /* of a long one this is the beginning */
     }
@@ -992,6 +1016,7 @@ static void take_comment(void *context, const xmlChar *text) {
     (void)text;
     if (feed_is_read(&reader->feed)) {
         bool is_part = section_is_part(&reader->feed.section, feed_offset(&reader->feed), &reader->feed.skew);
+        feed_check_inclusion(&reader->feed);
         feed_move(&reader->feed, feed_offset(&reader->feed));
         section_begins_again(&reader->feed.section, is_part, &reader->feed.skew);
     }
@@ -999,6 +1024,7 @@ static void take_comment(void *context, const xmlChar *text) {
 
 /* What was read is no markup that goes on. Makes libxml2 as it was before a fragment. */
 static void move_on(struct reader *reader) {
+    feed_check_inclusion(&reader->feed);
     if (reader->has_fragment) {
         reader->feed.parser->recovery = 0;
         reader->feed.parser->wellFormed = 1;
@@ -1027,6 +1053,9 @@ static void take_subset(void *context, const xmlChar *name, const xmlChar *publi
 
 static void take_subset_end(void *context, const xmlChar *name, const xmlChar *public, const xmlChar *system) {
     struct reader *reader = context;
+    if (reader->feed.inclusions.count > 0) {
+        feed_refuse_unbalanced(&reader->feed);
+    }
     declarations_external(&reader->declarations, name, public, system);
     move_on(reader);
 }
@@ -1057,10 +1086,7 @@ static xmlChar *whole_text(struct reader *reader, xmlChar *text, struct bytes *w
     if (text == NULL || !has_left_out(left) || !feed_is_read(&reader->feed)) {
         return text;
     }
-    size_t length = left_out_length(left, span);
-    if (length > INT_MAX) {
-        fault_set(reader->fault, FAULT_OUTSIDE, declarations_place(&reader->declarations), "%s", long_entity);
-    } else if (!bytes_reserve(whole, length + 1)) {
+    if (!bytes_reserve(whole, left_out_length(left, span) + 1)) {
         out_of_memory(reader);
     } else {
         left_out_add(left, span, whole);
@@ -1081,20 +1107,41 @@ static xmlChar *numbered_text(struct reader *reader, xmlChar *text, bool is_para
     return (xmlChar *)bytes_text(numbered);
 }
 
+/* Keeps the text of a long entity, which is the whole one, or what libxml2 has. Returns what libxml2 is to keep: a mark, or nothing if it has the entity. */
+static xmlChar *long_kept_text(struct reader *reader, const xmlChar *name, bool is_parameter, xmlChar *text, struct bytes *whole) {
+    static xmlChar nothing[] = "";
+    xmlDocPtr document = reader->feed.parser->myDoc;
+    xmlEntityPtr entity = is_parameter ? xmlGetParameterEntity(document, name) : xmlGetDocEntity(document, name);
+    if (entity != NULL || !is_good(reader)) {
+        return nothing;
+    }
+    if (whole->length == 0) {
+        bytes_add(whole, text, strlen((const char *)text));
+    }
+    declarations_keep_long(&reader->declarations, is_parameter, whole, reader->mark);
+    return (xmlChar *)reader->mark;
+}
+
+/* The text of an entity that libxml2 is to keep. Free the bytes. */
+static xmlChar *entity_text(struct reader *reader, const xmlChar *name, int type, xmlChar *text, struct bytes written[3]) {
+    bool is_parameter = type == XML_INTERNAL_PARAMETER_ENTITY || type == XML_EXTERNAL_PARAMETER_ENTITY;
+    xmlChar *whole = whole_text(reader, text, &written[0]);
+    bool is_long = span_of(whole).length > LONGEST_ENTITY;
+    xmlChar *value = is_long ? whole : numbered_text(reader, whole, is_parameter, &written[1]);
+    declarations_entity(&reader->declarations, is_parameter, value);
+    return is_long ? long_kept_text(reader, name, is_parameter, value, &written[0]) : kept_text(reader, type, value, &written[2]);
+}
+
 static void take_entity(void *context, const xmlChar *name, int type, const xmlChar *public, const xmlChar *system, xmlChar *text) {
     struct reader *reader = context;
-    struct bytes whole = NO_BYTES;
-    struct bytes numbered = NO_BYTES;
-    struct bytes written = NO_BYTES;
+    struct bytes written[3] = {NO_BYTES, NO_BYTES, NO_BYTES};
     bool is_parameter = type == XML_INTERNAL_PARAMETER_ENTITY || type == XML_EXTERNAL_PARAMETER_ENTITY;
-    xmlChar *value = numbered_text(reader, whole_text(reader, text, &whole), is_parameter, &numbered);
-    check_long_name(reader, name);
-    declarations_entity(&reader->declarations, is_parameter, value);
     bool is_first = is_parameter || xmlGetDocEntity(reader->feed.parser->myDoc, name) == NULL;
-    xmlSAX2EntityDecl(reader->feed.parser, name, type, public, system, kept_text(reader, type, value, &written));
-    bytes_free(&written);
-    bytes_free(&numbered);
-    bytes_free(&whole);
+    check_long_name(reader, name);
+    xmlSAX2EntityDecl(reader->feed.parser, name, type, public, system, entity_text(reader, name, type, text, written));
+    for (size_t at = 0; at < sizeof written / sizeof *written; at++) {
+        bytes_free(&written[at]);
+    }
     if (!is_parameter && is_first) {
         declarations_declared(&reader->declarations, name);
     }
@@ -1340,6 +1387,15 @@ static void ignore_error(void *context, parser_error *error) {
     (void)error;
 }
 
+/* Takes an end where entities are included: their texts end what begins in them alone. */
+static void take_included_end(void *context, const xmlChar *local, const xmlChar *prefix, const xmlChar *uri) {
+    struct reader *reader = context;
+    if (feed_is_read(&reader->feed) && reader->start.depth <= inclusion_depth(&reader->feed.inclusions)) {
+        feed_refuse_unbalanced(&reader->feed);
+    }
+    take_end(context, local, prefix, uri);
+}
+
 static void set_handlers(xmlSAXHandler *handlers) {
     memset(handlers, 0, sizeof *handlers);
     handlers->initialized = XML_SAX2_MAGIC;
@@ -1387,7 +1443,7 @@ static void check_end(struct reader *reader) {
     if (reader->memory.has_failed) {
         fault_free(reader->fault); /* what was found may come of that */
         out_of_memory(reader);
-    } else if (!feed->parser->wellFormed || !feed->has_ended || feed->given < feed->text.length) {
+    } else if (!feed->parser->wellFormed || !feed_has_all(feed) || feed->given < feed->text.length || feed->inclusions.count > 0) {
         fault_set(reader->fault, FAULT_MALFORMED, reader->feed.place, "malformed XML: not well-formed");
     }
 }
@@ -1448,6 +1504,12 @@ static void take_shortened(void *context) {
     reader->is_unusual = true;
 }
 
+/* From now on texts of entities may be included. */
+static void use_inclusions(void *context) {
+    struct reader *reader = context;
+    reader->feed.parser->sax->endElementNs = take_included_end;
+}
+
 /* From now on texts and values may have marks for control characters. */
 static void use_marks(void *context) {
     struct reader *reader = context;
@@ -1467,6 +1529,8 @@ static void open_reader(struct reader *reader, const struct byte_source *source,
     reader->feed.before_read = before_read;
     reader->feed.marked = use_marks;
     reader->feed.shortened = take_shortened;
+    reader->feed.included = use_inclusions;
+    reader->feed.depth = &reader->start.depth;
     reader->feed.expand = expand;
     reader->names.long_names = &reader->feed.shortening.names;
     reader->feed.most_depth = sink->depth == 0 ? USUAL_DEPTH : sink->depth;

@@ -1,9 +1,11 @@
 #include "feed.h"
 
+#include "including.h"
 #include "parser_memory.h"
 
 #include <ctype.h>
 #include <libxml/parserInternals.h>
+#include <limits.h>
 #include <string.h>
 
 enum {
@@ -37,12 +39,14 @@ void feed_open(struct feed *feed, const struct byte_source *source, struct fault
     feed->since = feed->place;
     feed->long_at = UINT64_MAX;
     feed->doubt_at = UINT64_MAX;
+    feed->taken_back = ULONG_MAX;
 }
 
 void feed_close(struct feed *feed) {
     decoding_free(&feed->decoding);
     bytes_free(&feed->models.separators);
     shortening_free(&feed->shortening);
+    inclusions_free(&feed->inclusions);
     bytes_free(&feed->text);
     bytes_free(&feed->room);
 }
@@ -150,16 +154,41 @@ static struct place counted(struct place place, const char *at, const char *end)
     return place;
 }
 
+/* Counts the lines and columns from one offset to another. */
+static struct place counted_between(const struct feed *feed, struct place place, uint64_t from, uint64_t to) {
+    return counted(place, feed->text.data + (from - feed->begin), feed->text.data + (to - feed->begin));
+}
+
+/* Counts those that the document itself has. */
+static struct place counted_own(const struct feed *feed, struct place place, uint64_t from, uint64_t to) {
+    const struct inclusions *inclusions = &feed->inclusions;
+    for (size_t at = 0; at < inclusions->part_count && from < to; at++) {
+        struct included_part part = inclusions->parts[at];
+        if (part.end > from && part.begin < to) {
+            place = part.begin > from ? counted_between(feed, place, from, part.begin) : place;
+            from = part.end < to ? part.end : to;
+        }
+    }
+    return from < to ? counted_between(feed, place, from, to) : place;
+}
+
+/* The place of what is included at the offset; NULL: the document itself has that. */
+static const struct place *included_place(const struct feed *feed, uint64_t offset) {
+    const struct included_part *part = feed->inclusions.part_count == 0 ? NULL : included_part_at(&feed->inclusions, offset);
+    return part == NULL ? NULL : &part->place;
+}
+
 struct place feed_place(struct feed *feed, uint64_t offset) {
     uint64_t end = offset < end_of(feed) ? offset : end_of(feed);
-    if (is_in_mark(feed, offset)) {
+    const struct place *included = included_place(feed, offset);
+    if (included == NULL && is_in_mark(feed, offset)) {
         return (struct place){feed->long_place.line, feed->long_place.column + (offset - feed->long_at)};
     }
     if (end > feed->place_at) {
-        feed->place = counted(feed->place, feed->text.data + (feed->place_at - feed->begin), feed->text.data + (end - feed->begin));
+        feed->place = counted_own(feed, feed->place, feed->place_at, end);
         feed->place_at = end;
     }
-    return feed->place;
+    return included == NULL ? feed->place : *included;
 }
 
 uint64_t feed_offset_of(const struct feed *feed, struct position position) {
@@ -176,16 +205,18 @@ uint64_t feed_offset_of(const struct feed *feed, struct position position) {
 void feed_since(struct feed *feed) {
     feed->since_at = feed->place_at;
     feed->since = feed->place;
+    inclusions_forget(&feed->inclusions, feed->since_at);
 }
 
 struct place feed_earlier_place(struct feed *feed, uint64_t offset) {
     if (offset >= feed->place_at || is_in_mark(feed, offset)) {
         return feed_place(feed, offset);
     }
-    if (offset <= feed->since_at) {
-        return feed->since;
+    const struct place *included = included_place(feed, offset);
+    if (included != NULL) {
+        return *included;
     }
-    return counted(feed->since, feed->text.data + (feed->since_at - feed->begin), feed->text.data + (offset - feed->begin));
+    return offset <= feed->since_at ? feed->since : counted_own(feed, feed->since, feed->since_at, offset);
 }
 
 struct span feed_text(const struct feed *feed, uint64_t offset, size_t length) {
@@ -249,7 +280,7 @@ static void forget(struct feed *feed) {
 }
 
 bool feed_is_over(const struct feed *feed) {
-    size_t own = feed->text.capacity + feed->room.capacity + feed->models.separators.capacity + shortening_held(&feed->shortening);
+    size_t own = feed->text.capacity + feed->room.capacity + feed->models.separators.capacity + shortening_held(&feed->shortening) + feed->inclusions.held;
     return parser_memory_held() + own + feed->decoding.first.capacity + feed->defaults + feed->kept > feed->most;
 }
 
@@ -315,9 +346,12 @@ static void write_references(struct feed *feed) {
     }
 }
 
-/* Reads the next bytes of the document. False: there is a fault. */
+/* Reads the next bytes of the document, or of a text in it. False: there is a fault. */
 static bool read_more(struct feed *feed) {
     size_t length = 0;
+    if (feed->inclusions.text_count > 0) {
+        return feed_read_included(feed);
+    }
     if (!bytes_reserve(&feed->room, PIECE_BYTES)) {
         fault_set(feed->fault, FAULT_MEMORY, (struct place){0, 0}, "out of memory");
         return false;
@@ -579,7 +613,7 @@ static void check(struct feed *feed) {
 /* Lets libxml2 ask no more if it has all of the document. Else it asks at each token of the last 250 bytes, which takes long for many small documents. */
 static void stop_asking(struct feed *feed) {
     xmlParserInputBufferPtr buffer = feed->parser->input == NULL ? NULL : feed->parser->input->buf;
-    bool has_all = feed->has_ended && feed->given == feed->text.length && feed->decoding.fault.kind == FAULT_NONE;
+    bool has_all = feed_has_all(feed) && feed->given == feed->text.length && feed->decoding.fault.kind == FAULT_NONE;
     if (has_all && buffer != NULL && buffer->context == feed) {
         buffer->readcallback = NULL;
     }
@@ -620,15 +654,19 @@ static void write_bytes(struct feed *feed, char *bytes, size_t count) {
 /* Tells about the first code that other programs read otherwise, once libxml2 has it. */
 static void tell_doubt(struct feed *feed) {
     if (feed->doubt_at < feed->begin + feed->given && !feed->has_told_doubt) {
-        const char *text = feed->text.data;
         feed->has_told_doubt = true;
-        feed->doubtful(feed->context, counted(feed->place, text + (feed->place_at - feed->begin), text + (feed->doubt_at - feed->begin)));
+        feed->doubtful(feed->context, counted_own(feed, feed->place, feed->place_at, feed->doubt_at));
     }
+}
+
+/* Whether there may be more to read. */
+static bool may_have_more(const struct feed *feed) {
+    return feed->inclusions.text_count > 0 || (!feed->has_ended && feed->decoding.fault.kind == FAULT_NONE);
 }
 
 /* Reads until there are so many bytes that libxml2 has not got, or no more. False: there is a fault. */
 static bool read_for(struct feed *feed, size_t wanted) {
-    while (feed->fault->kind == FAULT_NONE && !has_enough(feed, wanted) && !feed->has_ended && feed->decoding.fault.kind == FAULT_NONE) {
+    while (feed->fault->kind == FAULT_NONE && !has_enough(feed, wanted) && may_have_more(feed)) {
         forget(feed);
         feed->before_read(feed->context);
         if (feed->fault->kind != FAULT_NONE || !read_more(feed)) {
@@ -762,9 +800,9 @@ static bool may_be_declared(const struct feed *feed, struct span text, size_t pl
  * within `]]>`, nor soon behind a long run. */
 static size_t good_count(const struct feed *feed, struct span next, size_t most) {
     size_t count = next.length < most ? next.length : most;
-    bool is_end = feed->has_ended && count == next.length;
+    bool is_end = feed_has_all(feed) && count == next.length;
     count = !is_end && may_be_declared(feed, next, count) ? in_long_run(next, count) : count;
-    bool is_before_longer = count < next.length ? ((unsigned char)next.data[count] & 0xC0) == 0xC0 : !feed->has_ended;
+    bool is_before_longer = count < next.length ? ((unsigned char)next.data[count] & 0xC0) == 0xC0 : !feed_has_all(feed);
     size_t good = before_end(next, is_before_longer && count > 0 ? count - 1 : count);
     return good > 0 ? good : count;
 }
@@ -836,13 +874,14 @@ static void count_from_zero(struct feed *feed) {
     if (input != NULL && input->consumed > MOST_CONSUMED) {
         feed->skew += input->consumed;
         input->consumed = 0;
+        feed->taken_back = ULONG_MAX;
     }
 }
 
 /* Takes the fault in the document's bytes once libxml2 has got all that is before it. */
 static void take_fault(struct feed *feed) {
     struct fault *why = &feed->decoding.fault;
-    if (feed->given == feed->text.length && why->kind != FAULT_NONE) {
+    if (feed->given == feed->text.length && feed->inclusions.text_count == 0 && why->kind != FAULT_NONE) {
         struct place place = why->kind == FAULT_MEMORY ? (struct place){0, 0} : feed_place(feed, end_of(feed));
         fault_set(feed->fault, why->kind, place, "%s", bytes_text(&why->what));
     }

@@ -2,13 +2,14 @@
  *
  * The text is what `decoding.h` makes of the document, so libxml2 sees UTF-8 with a line feed for each line end, whatever the document's encoding. In XML 1.1
  * it sees marks in the place of the references that `controls.h` finds. `models.h` says what it sees of content models, `sections.h` of long comments and the
- * like, `shortening.h` of long names and values, `long_references.h` of long references. */
+ * like, `shortening.h` of long names and values, `long_references.h` of long references, `inclusions.h` of long entities. */
 #ifndef FEED_H
 #define FEED_H
 
 #include "controls.h"
 #include "decoding.h"
 #include "events.h"
+#include "inclusions.h"
 #include "long_references.h"
 #include "models.h"
 #include "sections.h"
@@ -65,6 +66,9 @@ struct feed {
     uint64_t rest_at;   /* the offset of the rest of the last one of which it has read that */
     struct section section;
     struct shortening shortening;
+    struct inclusions inclusions;
+    unsigned long taken_back; /* the bytes that libxml2 had forgotten when it had just read a reference whose text is included; ULONG_MAX: unknown */
+    const size_t *depth; /* how many elements are open */
     const char *spelling; /* of marks in namespaces (spell_controls); NULL: these become characters */
     struct bytes room;  /* where the document's bytes are read */
     uint64_t long_at;   /* the offset of markup that is so long that its beginning is not kept, .. */
@@ -83,12 +87,18 @@ struct feed {
     void (*marked)(void *context);      /* is called after libxml2 got the first mark for a control character */
     size_t (*expand)(void *context, struct span text, struct bytes *to); /* adds what the reference at the start of the text, to an entity of the document, gives
                                                                           * in a value. Returns its length; 0: it may not be there */
+    void (*included)(void *context);    /* is called before libxml2 gets the text of an entity as if the document had it */
     void (*shortened)(void *context);   /* is called after libxml2 got less of a tag or a declaration than the document has */
     void *context;
 };
 
 void feed_open(struct feed *feed, const struct byte_source *source, struct fault *fault);
 void feed_close(struct feed *feed);
+
+/* Whether all of the text is there. */
+static inline bool feed_has_all(const struct feed *feed) {
+    return feed->has_ended && feed->inclusions.text_count == 0;
+}
 
 /* Reads for libxml2, as its input callback. */
 int feed_read(void *feed, char *bytes, int length);

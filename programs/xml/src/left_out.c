@@ -74,6 +74,10 @@ static const struct bytes *part_at(const struct left_out *left, struct span text
     return index < parts->count && memcmp(text.data, mark, LEFT_OUT_MARK) == 0 ? &parts->parts[index] : NULL;
 }
 
+const struct bytes *left_out_part(const struct left_out *left, struct span text) {
+    return text.length == LEFT_OUT_MARK ? part_at(left, text) : NULL;
+}
+
 /* The first mark in the text, and its part. Returns where it is; the length of the text if there is none. */
 static size_t next_mark(const struct left_out *left, struct span text, const struct bytes **part) {
     size_t at = 0;

@@ -19,7 +19,7 @@ struct left_parts {
 /* Set it to zero. */
 struct left_out {
     struct left_parts passing; /* of a tag, or of the literal of an entity: they are written again when libxml2 has read that */
-    struct left_parts lasting; /* of values by default, whose marks libxml2 keeps */
+    struct left_parts lasting; /* of values by default, and texts of entities, whose marks libxml2 keeps */
     size_t held;               /* the bytes of all */
     uint64_t secret[2];
     bool has_secret;
@@ -37,6 +37,9 @@ static inline bool has_left_out(const struct left_out *left) {
 
 /* Whether the text has a mark. */
 bool left_out_is_in(const struct left_out *left, struct span text);
+
+/* The part whose mark is the text; NULL: it is none. */
+const struct bytes *left_out_part(const struct left_out *left, struct span text);
 
 /* The length of the text as a whole. */
 size_t left_out_length(const struct left_out *left, struct span text);

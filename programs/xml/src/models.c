@@ -197,6 +197,11 @@ static size_t next(const struct model_scan *scan, struct span text, size_t at) {
     return at;
 }
 
+void models_look_again(struct model_scan *scan) {
+    bytes_clear(&scan->separators);
+    *scan = (struct model_scan){.most = scan->most, .separators = scan->separators};
+}
+
 void make_shallow(struct model_scan *scan, char *text, size_t length) {
     size_t at = 0;
     while (at < length && scan->part != MODEL_END) {

@@ -45,6 +45,9 @@ struct model_scan {
 /* Makes the models in the next bytes shallow. If memory runs out, the separators say so. */
 void make_shallow(struct model_scan *scan, char *text, size_t length);
 
+/* Goes back to where nothing of declarations is read: libxml2 gets again what was handed to it. */
+void models_look_again(struct model_scan *scan);
+
 /* Where the model at the start of the text can be parted: before a separator of a bracket that is open now. SIZE_MAX: it can not. */
 size_t model_parting(const struct model_scan *scan, struct span text);
 

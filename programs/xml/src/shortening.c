@@ -90,6 +90,11 @@ void shortening_begin_blanks(struct shortening *shortening, uint64_t offset) {
     shortening->markup = UINT64_MAX;
 }
 
+void shortening_look_again(struct shortening *shortening) {
+    shortening->scan = (struct run_scan){.has_types = shortening->scan.has_types};
+    shortening->markup = UINT64_MAX;
+}
+
 size_t shortening_most(const struct shortening *shortening, uint64_t offset, size_t most) {
     uint64_t cut = shortening->scan.run + LONGEST_NAME;
     bool is_at_end = shortening->scan.kind == RUN_NAME && cut + 2 * IN_PLACE_BYTES >= offset + most && cut < offset + most + 2 * IN_PLACE_BYTES;

@@ -48,6 +48,9 @@ void shortening_free(struct shortening *shortening);
 /* Looks at what libxml2 has of the markup, which may be in a document type, once it is long. Here the offset is that of `next`, which libxml2 has got. */
 void shortening_look(struct shortening *shortening, const struct offered *offered, bool is_declared);
 
+/* Forgets how far markup was looked at, which libxml2 gets again. */
+void shortening_look_again(struct shortening *shortening);
+
 /* The offset behind the reference in content that is the markup; where it begins if its end was not looked at. */
 uint64_t shortening_behind(const struct shortening *shortening, uint64_t markup);
 

@@ -68,6 +68,8 @@ static const char *const documents[] = {
     "<a x='1' i='-'/>",
     "<?xml version='1.1'?><!DOCTYPE a [<!ENTITY e '&#2;'><!ENTITY t '&#38;#9;'>]><a x='1&e;&#1;' xmlns:n='u&t;'>&e;<b/>&#3;</a>",
     "<a x='1' l='1 3'/>",
+    "<!DOCTYPE a [<!ENTITY % p '<!ENTITY e \"<b/>a text of more than sixty bytes, with a carriage return&#38;#13;.\"><!-- a comment -->'>%p;"
+    "<!ENTITY f '&e;'>]><a x='1'>&f;text&e;</a>",
     "<a x='2' xmlns:n='u'><b s='1'>text</b><b l='1 3'/></a>",
 };
 
