@@ -49,6 +49,7 @@ void declarations_free(struct declarations *declarations) {
         free(declarations->defaults[at].value);
     }
     free(declarations->defaults);
+    xmlFree(declarations->nothing.orig); /* libxml2 has put a literal there if it asked for an entity that it had just declared after a fault */
     xmlHashFree(declarations->counts, NULL);
     xmlHashFree(declarations->heights, NULL);
     nested_parameters_free(&declarations->nested);

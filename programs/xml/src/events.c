@@ -10,7 +10,9 @@
 #include "parser_memory.h"
 #include "parser_words.h"
 #include "tag_names.h"
+#include "wide_names.h"
 #include "withdrawn.h"
+#include "xml_names.h"
 
 #include <libxml/SAX2.h>
 #include <libxml/parserInternals.h>
@@ -734,6 +736,174 @@ static void check_names(struct reader *reader, const struct start_event *start) 
     bytes_free(&words);
 }
 
+/* Writes a part of a name as libxml2 has it: with a number if it is long. */
+static const xmlChar *name_for_libxml2(struct reader *reader, struct span name, struct bytes *text) {
+    char number[NUMBER_BYTES + 1] = "";
+    struct bytes whole = NO_BYTES;
+    size_t kept = name.length > LONGEST_NAME ? long_name_kept(name) : name.length;
+    bytes_add(text, name.data, kept);
+    if (kept < name.length) {
+        bytes_add(&whole, name.data, name.length);
+        text->failed |= !long_names_put(&reader->feed.shortening.names, &whole, number);
+        bytes_add_text(text, number);
+    }
+    bytes_free(&whole);
+    const char *found = bytes_text(text);
+    if (text->failed) {
+        out_of_memory(reader);
+    }
+    return (const xmlChar *)found;
+}
+
+/* Whether the attribute that libxml2 has not got is declared with another type than CDATA. */
+static bool is_wide_tokenized(struct reader *reader, struct span prefix, struct span local) {
+    struct bytes texts[2] = {NO_BYTES, NO_BYTES};
+    bool is_declared = reader->feed.parser->attsSpecial != NULL;
+    const xmlChar *written = is_declared && prefix.length > 0 ? name_for_libxml2(reader, prefix, &texts[0]) : NULL;
+    bool is_one = is_declared && is_tokenized(reader, written, name_for_libxml2(reader, local, &texts[1]));
+    bytes_free(&texts[0]);
+    bytes_free(&texts[1]);
+    return is_one;
+}
+
+/* A part of a name whose text stays until the document has been read, and is there once. */
+static struct span staying(struct reader *reader, struct span name) {
+    struct bytes text = NO_BYTES;
+    struct span kept = {"", 0};
+    bytes_add(&text, name.data, name.length);
+    if (text.failed || !long_names_keep(&reader->feed.shortening.names, &text, &kept)) {
+        out_of_memory(reader);
+    }
+    bytes_free(&text);
+    return kept;
+}
+
+/* What is told of the namespace of a prefix; an empty text: there is none. */
+static struct span uri_of(struct reader *reader, struct span prefix) {
+    const xmlParserCtxt *parser = reader->feed.parser;
+    struct bytes text = NO_BYTES;
+    const xmlChar *written = xmlDictLookup(parser->dict, name_for_libxml2(reader, prefix, &text), -1);
+    const xmlChar *found = written == parser->str_xml ? parser->str_xml_ns : NULL;
+    for (int at = parser->nsNr - 2; at >= 0 && found == NULL; at -= 2) {
+        found = parser->nsTab[at] == written ? parser->nsTab[at + 1] : NULL;
+    }
+    bytes_free(&text);
+    reader->has_undeclared |= found == NULL || *found == '\0';
+    return told_uri(reader, found);
+}
+
+/* The value of an attribute that libxml2 has not got, as it is normalized. */
+static struct span wide_value(struct reader *reader, size_t at, bool has_tokens) {
+    enum mark_part part = MARK_NONE;
+    size_t length = 0;
+    char *value = wide_tag_value(&reader->feed.wide, at, &length);
+    if (reader->feed.controls.has_marks) {
+        length = unmark_controls(value, length, &part);
+    }
+    return taken(reader, (struct span){value, has_tokens ? leave_tokens(value, length) : length});
+}
+
+/* Adds an attribute that libxml2 has not got. */
+static void add_wide_attribute(struct reader *reader, struct start_event *start, size_t at) {
+    struct span name = wide_tag_name(&reader->feed.wide, at);
+    const char *colon = memchr(name.data, ':', name.length);
+    struct span prefix = {name.data, colon == NULL ? 0 : (size_t)(colon - name.data)};
+    struct span local = span_from(name, colon == NULL ? 0 : prefix.length + 1);
+    struct span value = wide_value(reader, at, is_wide_tokenized(reader, prefix, local));
+    struct span uri = colon == NULL ? (struct span){"", 0} : uri_of(reader, prefix);
+    void *list = reader->attributes;
+    if (is_good(reader) && has_room(reader, &list, start->attribute_count, &reader->attribute_capacity, sizeof *reader->attributes)) {
+        reader->attributes = list;
+        prefix = colon == NULL ? (struct span){"", 0} : staying(reader, prefix);
+        reader->attributes[start->attribute_count++] = (struct event_attribute){{prefix, staying(reader, local), uri}, value};
+    }
+}
+
+/* Takes an attribute that has the name of one before it: as it is written, or else by its namespace. */
+static void take_double(struct reader *reader, const struct start_event *start, size_t before, size_t index) {
+    const struct event_name *name = &start->attributes[index].name;
+    struct event_attribute both[] = {start->attributes[before], start->attributes[index]};
+    struct start_event tag = *start;
+    if (span_equal(name->prefix, both[0].name.prefix)) {
+        struct place place = feed_place(&reader->feed, feed_offset(&reader->feed)); /* libxml2 is there when it finds that */
+        fault_set(reader->fault, FAULT_MALFORMED, place, "malformed XML: the attribute %.*s%s%.*s is there twice", (int)name->prefix.length,
+                  name->prefix.data, name->prefix.length > 0 ? ":" : "", (int)name->local.length, name->local.data);
+    } else if (reader->sink.checks_names) {
+        check_names(reader, start);
+        tag.attributes = both;
+        tag.attribute_count = sizeof both / sizeof *both;
+        reader->has_double = true;
+        check_names(reader, &tag);
+        reader->has_double = false;
+    }
+}
+
+/* What of a wide tag was compared. `given` of the attributes that libxml2 has got are in the tag, and the others, up to `count`, are there by default. */
+struct comparing {
+    struct wide_names names;
+    size_t given, count;
+};
+
+/* Compares the names of the attributes that are in the tag. */
+static void compare_given(struct reader *reader, const struct start_event *start, struct comparing *comparing) {
+    for (size_t at = 0; at < start->attribute_count && is_good(reader); at++) {
+        bool is_default = at >= comparing->given && at < comparing->count;
+        size_t before = is_default ? at : wide_names_put(&comparing->names, reader->attributes, at);
+        if (before < at) {
+            take_double(reader, start, before, at);
+        }
+    }
+}
+
+/* Takes the name off what is there by default, and in the tag too. */
+static void compare_defaults(struct reader *reader, const struct start_event *start, struct comparing *comparing) {
+    for (size_t at = comparing->given; at < comparing->count && is_good(reader); at++) {
+        struct event_name *name = &reader->attributes[at].name;
+        size_t before = wide_names_put(&comparing->names, reader->attributes, at);
+        if (before != at && span_equal(reader->attributes[before].name.prefix, name->prefix)) {
+            name->local.length = 0;
+        } else if (before != at) {
+            take_double(reader, start, before, at);
+        }
+    }
+}
+
+/* Drops the attributes without a name. */
+static void drop_nameless(struct reader *reader, struct start_event *start) {
+    size_t kept = 0;
+    for (size_t at = 0; at < start->attribute_count; at++) {
+        reader->attributes[kept] = reader->attributes[at];
+        kept += reader->attributes[at].name.local.length > 0;
+    }
+    start->attribute_count = kept;
+}
+
+/* Compares the names of all attributes of a wide tag. */
+static void compare_wide(struct reader *reader, struct start_event *start, size_t given, size_t count) {
+    struct comparing comparing = {{NULL, NULL, 0, {0, 0}}, given, count};
+    if (wide_names_open(&comparing.names, start->attribute_count)) {
+        compare_given(reader, start, &comparing);
+        compare_defaults(reader, start, &comparing);
+        drop_nameless(reader, start);
+    } else {
+        out_of_memory(reader);
+    }
+    wide_names_free(&comparing.names);
+}
+
+/* Adds the attributes that libxml2 has not got. */
+static void add_wide(struct reader *reader, struct start_event *start, size_t given) {
+    size_t count = start->attribute_count;
+    for (size_t at = 0; at < reader->feed.wide.count && is_good(reader); at++) {
+        add_wide_attribute(reader, start, at);
+    }
+    start->attributes = reader->attributes;
+    if (is_good(reader)) {
+        compare_wide(reader, start, given, count);
+    }
+    reader->has_double = false; /* all were compared */
+}
+
 /* Refuses a declaration of a namespace that libxml2 would refuse if it had the whole. */
 static void check_declarations(struct reader *reader, const struct start_event *start) {
     struct bytes words = NO_BYTES;
@@ -771,7 +941,7 @@ static uint64_t searched_for(const struct reader *reader, int attribute_count) {
 static void count_costs(struct reader *reader, int attribute_count, int default_count, const xmlChar **attributes) {
     uint64_t defaults = (uint64_t)default_count;
     uint64_t cost = defaults * (uint64_t)attribute_count / COST_OF_DEFAULTS;
-    reader->searched += searched_for(reader, attribute_count);
+    reader->searched += searched_for(reader, attribute_count) + reader->feed.wide.count * (uint64_t)reader->feed.parser->nsNr / 2;
     uint64_t searched = reader->searched / reader->allowed;
     if (searched > SEARCHED && searched / MOST_SEARCHED > feed_offset(&reader->feed) + reader->declarations.loaded) {
         feed_refuse(&reader->feed, place_of(reader->start.position), "too many declarations of namespaces are in scope",
@@ -823,7 +993,9 @@ static OUT_OF_LINE void take_any_start(void *context, const xmlChar *local, cons
     start->name = name_of(reader, local, prefix, uri);
     start->has_fleeting_name = start->name == &reader->names.other;
     add_declarations(reader, start, namespace_count, namespaces);
-    if (reader->has_marked_uri) { /* libxml2 may not see that two namespaces are one */
+    if (reader->feed.wide.count > 0) {
+        add_wide(reader, start, (size_t)(attribute_count - default_count));
+    } else if (reader->has_marked_uri) { /* libxml2 may not see that two namespaces are one */
         count_defaults(reader, (uint64_t)attribute_count * (uint64_t)attribute_count / COST_OF_DEFAULTS);
         reader->has_double = true;
     }
@@ -836,6 +1008,7 @@ static OUT_OF_LINE void take_any_start(void *context, const xmlChar *local, cons
     keep_name(reader, start->name);
     bytes_free(&reader->feed.shortening.whole);
     left_out_forget(&reader->feed.shortening.left);
+    wide_tag_forget(&reader->feed.wide);
     start->has_fleeting_name = false;
     reader->has_double = false;
     reader->has_undeclared = false;
@@ -1246,7 +1419,7 @@ static struct place error_place(struct reader *reader, const parser_error *error
     if (!feed_is_read(&reader->feed)) {
         return declarations_place(&reader->declarations);
     }
-    uint64_t offset = feed_offset(feed);
+    uint64_t offset = feed_offset_in_tag(feed);
     if (error->code == XML_ERR_MISPLACED_CDATA_END) {
         offset = feed_first(feed, offset, "]]>");
     }

@@ -47,6 +47,7 @@ void feed_close(struct feed *feed) {
     bytes_free(&feed->models.separators);
     shortening_free(&feed->shortening);
     inclusions_free(&feed->inclusions);
+    wide_tag_free(&feed->wide);
     bytes_free(&feed->text);
     bytes_free(&feed->room);
 }
@@ -280,7 +281,8 @@ static void forget(struct feed *feed) {
 }
 
 bool feed_is_over(const struct feed *feed) {
-    size_t own = feed->text.capacity + feed->room.capacity + feed->models.separators.capacity + shortening_held(&feed->shortening) + feed->inclusions.held;
+    size_t own = feed->text.capacity + feed->room.capacity + feed->models.separators.capacity + shortening_held(&feed->shortening) + feed->inclusions.held +
+                 wide_tag_held(&feed->wide);
     return parser_memory_held() + own + feed->decoding.first.capacity + feed->defaults + feed->kept > feed->most;
 }
 
@@ -573,7 +575,7 @@ static void check_length(struct feed *feed, uint64_t markup) {
     if (held_by_parser(feed) > MOST_HELD) {
         fault_set(feed->fault, FAULT_OUTSIDE, feed_place(feed, markup), "over a limit of this program: markup of more than 1,000,000,000 bytes");
     }
-    if (feed->shortening.failed || feed->shortening.text.failed) {
+    if (feed->shortening.failed || feed->shortening.text.failed || feed->wide.text.failed) {
         fault_set(feed->fault, FAULT_MEMORY, (struct place){0, 0}, "out of memory");
     }
     feed_check_memory(feed, feed->place);
@@ -856,10 +858,80 @@ static size_t give_parted(struct feed *feed, char *bytes, size_t most) {
     return cut + feed->parting;
 }
 
+/* Where an attribute ends in the next bytes, of which libxml2 gets so many at most, if it has got enough of the tag. SIZE_MAX: none does. */
+static size_t attribute_end(const struct feed *feed, size_t most) {
+    struct span next = not_given(feed);
+    struct tag_scan ahead = feed->scan;
+    uint64_t offset = feed->begin + feed->given;
+    bool is_wide = ahead.count >= USUAL_WIDTH && !ahead.has_ended && ahead.next == offset;
+    char last = is_wide ? feed_byte(feed, offset - 1) : '\0';
+    bool is_behind = ahead.quote == '\0' && (last == '"' || last == '\'');
+    size_t at = 0;
+    next.length = !is_wide || is_behind ? 0 : next.length < most ? next.length : most;
+    while (at < next.length && !is_behind && !ahead.has_ended) {
+        char quote = ahead.quote;
+        scan(&ahead, (struct span){next.data + at++, 1});
+        is_behind = quote != '\0' && ahead.quote == '\0';
+    }
+    return is_behind ? at : SIZE_MAX;
+}
+
+/* The next attribute. More of the text is read for it. */
+static struct attribute_text next_attribute(struct feed *feed) {
+    struct attribute_text found = attribute_at(not_given(feed));
+    size_t wanted = PIECE_BYTES;
+    while (found.is_cut && wanted <= MOST_AHEAD && may_have_more(feed) && read_for(feed, wanted)) {
+        found = attribute_at(not_given(feed));
+        wanted *= 2;
+    }
+    return found;
+}
+
+/* Leaves out attributes of a wide tag, as long as they are usual. */
+static void leave_attributes(struct feed *feed) {
+    uint64_t begin = feed->begin + feed->given;
+    struct attribute_text next = next_attribute(feed);
+    while (next.length > 0 && feed->fault->kind == FAULT_NONE && wide_tag_add(&feed->wide, &next, feed->expand, feed->context)) {
+        shortening_pass_attribute(&feed->shortening, next.length);
+        pass(feed, next.length);
+        feed->scan.count++;
+        check_tag(feed, feed->scan.tag);
+        feed_check_memory(feed, feed->place);
+        next = next_attribute(feed);
+    }
+    uint64_t behind = feed->begin + feed->given;
+    if (behind > begin) {
+        feed->wide.behind = behind;
+        feed->wide.left = behind - begin;
+        feed->skew += behind - begin;
+        feed->shortened(feed->context);
+    }
+}
+
+/* Gives at most so many bytes to libxml2, up to attributes that are left out. Returns how many they are. */
+static size_t give_wide(struct feed *feed, char *bytes, size_t most) {
+    bool may_be = feed->parser != NULL && feed->scan.count >= USUAL_WIDTH && feed_is_read(feed) && !is_in_subset(feed);
+    uint64_t markup = may_be ? feed_markup(feed) : 0;
+    size_t end = may_be && feed->scan.tag == markup ? attribute_end(feed, most) : SIZE_MAX;
+    if (end == SIZE_MAX) {
+        return 0;
+    }
+    if (end > 0) {
+        write_bytes(feed, bytes, end);
+        check(feed);
+    }
+    if (feed->fault->kind == FAULT_NONE && shortening_is_behind_attribute(&feed->shortening, markup, feed->begin + feed->given)) {
+        leave_attributes(feed);
+        read_for(feed, most);
+    }
+    return end;
+}
+
 /* Gives at most so many bytes to libxml2, with less of long markup and more of long sections. Returns how many they are. */
 static size_t give(struct feed *feed, char *bytes, size_t most) {
     most = shortening_most(&feed->shortening, feed->begin + feed->given, most);
-    size_t count = give_parted(feed, bytes, most);
+    size_t count = give_wide(feed, bytes, most);
+    count += give_parted(feed, bytes + count, most - count);
     size_t cut = shortening_cut(feed, most - count);
     while (cut != SIZE_MAX && feed->fault->kind == FAULT_NONE) {
         count += give_shortened(feed, bytes + count, cut);

@@ -2,7 +2,8 @@
  *
  * The text is what `decoding.h` makes of the document, so libxml2 sees UTF-8 with a line feed for each line end, whatever the document's encoding. In XML 1.1
  * it sees marks in the place of the references that `controls.h` finds. `models.h` says what it sees of content models, `sections.h` of long comments and the
- * like, `shortening.h` of long names and values, `long_references.h` of long references, `inclusions.h` of long entities. */
+ * like, `shortening.h` of long names and values, `long_references.h` of long references, `inclusions.h` of long entities,
+ * `wide_tags.h` of many attributes. */
 #ifndef FEED_H
 #define FEED_H
 
@@ -14,6 +15,7 @@
 #include "models.h"
 #include "sections.h"
 #include "shortening.h"
+#include "wide_tags.h"
 
 #include <libxml/parser.h>
 
@@ -66,6 +68,7 @@ struct feed {
     uint64_t rest_at;   /* the offset of the rest of the last one of which it has read that */
     struct section section;
     struct shortening shortening;
+    struct wide_tag wide;
     struct inclusions inclusions;
     unsigned long taken_back; /* the bytes that libxml2 had forgotten when it had just read a reference whose text is included; ULONG_MAX: unknown */
     const size_t *depth; /* how many elements are open */
@@ -85,8 +88,7 @@ struct feed {
     uint64_t doubt_at;                  /* .. this offset; UINT64_MAX: there is none */
     void (*doubtful)(void *context, struct place place); /* is called after libxml2 got the first such code */
     void (*marked)(void *context);      /* is called after libxml2 got the first mark for a control character */
-    size_t (*expand)(void *context, struct span text, struct bytes *to); /* adds what the reference at the start of the text, to an entity of the document, gives
-                                                                          * in a value. Returns its length; 0: it may not be there */
+    expand_reference *expand;           /* for references to entities of the document */
     void (*included)(void *context);    /* is called before libxml2 gets the text of an entity as if the document had it */
     void (*shortened)(void *context);   /* is called after libxml2 got less of a tag or a declaration than the document has */
     void *context;
@@ -118,6 +120,12 @@ static inline uint64_t feed_offset(const struct feed *feed) {
     }
     const xmlParserInput *input = feed->parser->inputTab[0];
     return feed_offset_in(feed, input, input->cur);
+}
+
+/* The offset at which libxml2 is in a tag or before it: what is left out of a wide tag may be behind that. */
+static inline uint64_t feed_offset_in_tag(const struct feed *feed) {
+    uint64_t offset = feed_offset(feed);
+    return offset < feed->wide.behind ? offset - feed->wide.left : offset;
 }
 
 /* Whether libxml2 reads the document itself, and not the text of an entity. */

@@ -117,21 +117,20 @@ void left_out_add(const struct left_out *left, struct span text, struct bytes *t
     bytes_add(to, text.data, text.length);
 }
 
-/* Leaves one space between the tokens of the text behind the first bytes. */
-static void leave_one_space(struct bytes *text, size_t begin) {
-    size_t to = begin;
-    for (size_t at = begin; at < text->length; at++) {
-        if (text->data[at] != ' ' || (to > begin && text->data[to - 1] != ' ')) {
-            text->data[to++] = text->data[at];
+size_t leave_tokens(char *text, size_t length) {
+    size_t to = 0;
+    for (size_t at = 0; at < length; at++) {
+        if (text[at] != ' ' || (to > 0 && text[to - 1] != ' ')) {
+            text[to++] = text[at];
         }
     }
-    text->length = to > begin && text->data[to - 1] == ' ' ? to - 1 : to;
+    return to > 0 && text[to - 1] == ' ' ? to - 1 : to;
 }
 
 void left_out_add_tokens(const struct left_out *left, struct span text, struct bytes *to) {
     size_t begin = to->length;
     left_out_add(left, text, to);
-    leave_one_space(to, begin);
+    to->length = begin + leave_tokens(to->data + begin, to->length - begin);
 }
 
 void left_out_forget(struct left_out *left) {

@@ -50,6 +50,9 @@ void left_out_add(const struct left_out *left, struct span text, struct bytes *t
 /* Adds the text as a whole, with one space between its tokens. */
 void left_out_add_tokens(const struct left_out *left, struct span text, struct bytes *to);
 
+/* Leaves one space between the tokens of a text. Returns its length. */
+size_t leave_tokens(char *text, size_t length);
+
 /* Forgets the parts of a tag or a literal. */
 void left_out_forget(struct left_out *left);
 

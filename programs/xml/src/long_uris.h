@@ -22,6 +22,11 @@ struct long_uris {
 
 void long_uris_free(struct long_uris *uris);
 
+/* Whether two namespaces that were told are one. Long ones are there once, so pointers tell them. */
+static inline bool uris_are_same(struct span one, struct span other) {
+    return one.length == other.length && (one.data == other.data || (one.length < LONG_URI && memcmp(one.data, other.data, one.length) == 0));
+}
+
 /* What is told of a namespace; NULL: it is none of these. */
 const struct span *long_uris_told(const struct long_uris *uris, const void *uri);
 

@@ -271,7 +271,7 @@ static bool take_value(struct options *options, enum name name, const char *valu
     case NAME_MAX_MEMORY:
         return take_size(options, value, true, &options->memory);
     case NAME_MAX_ATTRIBUTES:
-        return take_number(options, value, MOST_ALLOWED, "--max-attributes wants a number from 1 to 1000000, and not '%s'", &options->attributes);
+        return take_number(options, value, MOST_ALLOWED, "--max-attributes wants a number from 1 to 1000000000, and not '%s'", &options->attributes);
     case NAME_FORMAT:
         return take_format(options, value);
     case NAME_COLOR:

@@ -18,7 +18,7 @@ enum when {
     WHEN_NEVER
 };
 
-enum { MOST_JOBS = 64, USUAL_FAULTS = 20, MOST_FAULTS = 1000, MOST_ALLOWED = 1000000 /* attributes of a tag */ };
+enum { MOST_JOBS = 64, USUAL_FAULTS = 20, MOST_FAULTS = 1000, MOST_ALLOWED = 1000000000 /* attributes of a tag */ };
 
 struct options {
     const char **schemas;

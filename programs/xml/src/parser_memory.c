@@ -45,23 +45,28 @@ static bool grow(void) {
     return true;
 }
 
-/* Takes a block into the table, and notes it if there is none. */
-static void *taken(void *block, size_t size) {
+/* Takes a block into the table, and notes it if there is none. False: there is no block, or no room in the table. */
+static bool take(void *block, size_t size) {
     if (current == NULL || !current->is_open) {
-        return block;
+        return block != NULL;
     }
-    if (block == NULL) {
+    if (block == NULL || (2 * (current->count + 1) > current->capacity && !grow())) {
         current->has_failed = true;
-        return block;
-    }
-    if (2 * (current->count + 1) > current->capacity && !grow()) {
-        current->has_failed = true;
-        return block;
+        return false;
     }
     put((struct parser_block){block, size});
     current->count++;
     current->held += size;
-    return block;
+    return true;
+}
+
+/* Takes a new block, which nothing would free if it were not in the table. */
+static void *taken(void *block, size_t size) {
+    bool is_taken = take(block, size);
+    if (!is_taken) {
+        free(block);
+    }
+    return is_taken ? block : NULL;
 }
 
 /* Takes the block at this slot out of the table, and moves those behind it to where they are looked for. */
@@ -110,10 +115,10 @@ static void *resize(void *block, size_t size) {
     uintptr_t old = (uintptr_t)block;
     void *larger = realloc(block, size);
     if (larger == NULL) {
-        taken(NULL, 0);
+        take(NULL, 0);
     } else if ((uintptr_t)larger != old) {
         let_go(old);
-        taken(larger, size);
+        take(larger, size);
     } else {
         struct parser_block *slot = slot_with(old);
         if (slot != NULL) {

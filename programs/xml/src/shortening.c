@@ -95,6 +95,15 @@ void shortening_look_again(struct shortening *shortening) {
     shortening->markup = UINT64_MAX;
 }
 
+bool shortening_is_behind_attribute(const struct shortening *shortening, uint64_t markup, uint64_t offset) {
+    const struct run_scan *scan = &shortening->scan;
+    return shortening->markup == markup && scan->looked == offset && scan->part == PART_TAG && scan->quote == '\0' && scan->kind == RUN_NONE;
+}
+
+void shortening_pass_attribute(struct shortening *shortening, size_t length) {
+    shortening->scan.looked += length;
+}
+
 size_t shortening_most(const struct shortening *shortening, uint64_t offset, size_t most) {
     uint64_t cut = shortening->scan.run + LONGEST_NAME;
     bool is_at_end = shortening->scan.kind == RUN_NAME && cut + 2 * IN_PLACE_BYTES >= offset + most && cut < offset + most + 2 * IN_PLACE_BYTES;

@@ -51,6 +51,10 @@ void shortening_look(struct shortening *shortening, const struct offered *offere
 /* Forgets how far markup was looked at, which libxml2 gets again. */
 void shortening_look_again(struct shortening *shortening);
 
+/* Whether the tag was looked at up to the offset, which is behind an attribute. Then attributes that begin there may be passed over. */
+bool shortening_is_behind_attribute(const struct shortening *shortening, uint64_t markup, uint64_t offset);
+void shortening_pass_attribute(struct shortening *shortening, size_t length);
+
 /* The offset behind the reference in content that is the markup; where it begins if its end was not looked at. */
 uint64_t shortening_behind(const struct shortening *shortening, uint64_t markup);
 

@@ -17,11 +17,6 @@ static bool is_equal(struct span one, struct span other) {
     return one.length == other.length && memcmp(one.data, other.data, one.length) == 0;
 }
 
-/* Whether two namespaces are one. Long ones are there once, so pointers tell them (long_uris.h). */
-static bool is_same_uri(struct span one, struct span other) {
-    return one.length == other.length && (one.data == other.data || (one.length < LONG_URI && is_equal(one, other)));
-}
-
 static void add_span(struct bytes *words, struct span span) {
     bytes_add(words, span.data, span.length);
 }
@@ -123,7 +118,7 @@ static const struct event_name *double_of(const struct start_event *tag, size_t 
     const struct event_name *name = &tag->attributes[index].name;
     for (size_t at = 0; at < index; at++) {
         const struct event_name *other = &tag->attributes[at].name;
-        if (is_equal(other->local, name->local) && is_same_uri(other->uri, name->uri)) {
+        if (is_equal(other->local, name->local) && uris_are_same(other->uri, name->uri)) {
             return other;
         }
     }

@@ -58,6 +58,9 @@ static void write_file(const char *name, const char *text) {
     check(file != NULL && fclose(file) == 0 && is_written, "a file is written", 0);
 }
 
+/* A document with a tag that is so long that attributes are left out of it (write_wide). */
+static char wide[8000];
+
 static const char *const documents[] = {
     "<a x='1'>text <b/> text</a>",
     "<a x='2'><b/></a>",
@@ -70,10 +73,19 @@ static const char *const documents[] = {
     "<a x='1' l='1 3'/>",
     "<!DOCTYPE a [<!ENTITY % p '<!ENTITY e \"<b/>a text of more than sixty bytes, with a carriage return&#38;#13;.\"><!-- a comment -->'>%p;"
     "<!ENTITY f '&e;'>]><a x='1'>&f;text&e;</a>",
+    wide,
     "<a x='2' xmlns:n='u'><b s='1'>text</b><b l='1 3'/></a>",
 };
 
 enum { DOCUMENTS = sizeof documents / sizeof *documents, HINTED = DOCUMENTS - 1, MOST = 100000 };
+
+static void write_wide(void) {
+    static const char begin[] = "<!DOCTYPE a [<!ENTITY e 'text'>]><a x='1' p='' q='' r='' s='' ";
+    static const char end[] = " n:c='' xmlns:n='u' d='&e;&#65;' n:e='x' f=''>&e;</a>";
+    memset(wide, ' ', sizeof wide - 1);
+    memcpy(wide, begin, strlen(begin));
+    memcpy(wide + sizeof wide - sizeof end, end, sizeof end);
+}
 
 /* What is kept of an answer. */
 struct kept {
@@ -269,6 +281,7 @@ int main(int count, char **words) {
         fprintf(stderr, "usage: library_memory_test FOLDER\n");
         return EXIT_FAILURE;
     }
+    write_wide();
     write_file("s.rnc", "include 'part.rnc' start = a\n");
     write_file("part.rnc", "a = element a { attribute x { '1' }, l?, attribute i { xsd:NCName { minLength = '000000001' } }?, (text | b)* }\n"
                            "b = element b { l?, attribute r { xsd:NCName { minLength = '00000001' } }? }\nl = attribute l { list { '1', '2' } }\n"

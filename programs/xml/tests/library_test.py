@@ -132,7 +132,7 @@ class Built(InLibrary):
         flags = SANITIZERS.split()
         if subprocess.run([*compiler(), *flags, "-o", self.folder / "probe", probe], capture_output=True, check=False).returncode != 0:
             self.skipTest("the compiler has no sanitizers")
-        folder = built(self.folder / "a sanitized one", CFLAGS=SANITIZERS + " -DLONGEST_ENTITY=60")
+        folder = built(self.folder / "a sanitized one", CFLAGS=SANITIZERS + " -DLONGEST_ENTITY=60 -DUSUAL_WIDTH=3")
         for source, *more in ((self.SOURCE,), (self.MEMORY, self.WRAPS)):
             program = self.compile(source, "-O1", *flags, *more, *self.static(folder))
             self.assertEqual(self.run_good([program, str(self.folder)]), f"{source.stem}: ok\n")
