@@ -103,13 +103,42 @@ static bool may_be_put(struct declarations *declarations, xmlEntityPtr entity, b
     return is_in_value || twin->balance == BALANCED;
 }
 
+/* What is read for an entity that is not declared, if it may be declared nowhere: nothing, unless what is not read may declare it. */
+static xmlEntityPtr undeclared(struct declarations *declarations, const xmlChar *name) {
+    const xmlParserCtxt *parser = declarations->feed->parser;
+    bool is_all_read = !declarations->is_unread && (!parser->hasExternalSubset || loads_external(declarations));
+    if (declarations->feed->fault->kind != FAULT_NONE || declarations_are_all(declarations) || !is_all_read) {
+        return NULL;
+    }
+    if (!declarations->has_skipped) {
+        declarations_note(declarations, declarations_place(declarations), "entity '%s' is not declared: it is read as nothing", name);
+    }
+    declarations->has_skipped = true;
+    return count_reference(declarations, &declarations->skipped) ? &declarations->skipped : NULL;
+}
+
+/* The entity of a reference in a value, also one that is not declared and gives nothing. NULL: there is none. */
+static xmlEntityPtr in_value(struct declarations *declarations, struct span name) {
+    xmlEntityPtr entity = declarations_entity_of(declarations, name);
+    struct bytes written = NO_BYTES;
+    if (entity == NULL) {
+        bytes_add(&written, name.data, name.length);
+        entity = undeclared(declarations, (const xmlChar *)bytes_text(&written));
+    }
+    if (written.failed) {
+        declarations_out_of_memory(declarations);
+    }
+    bytes_free(&written);
+    return entity;
+}
+
 /* Gives the text of an entity that is to be put in the place of a reference. A reference that stays is left to libxml2, which finds out why. */
 static bool give_text(void *context, struct span name, bool is_in_value, struct span *text) {
     struct declarations *declarations = context;
     if (declarations->feed->fault->kind != FAULT_NONE || (!is_in_value && !declarations->fills_content)) {
         return false;
     }
-    xmlEntityPtr entity = declarations_entity_of(declarations, name);
+    xmlEntityPtr entity = is_in_value ? in_value(declarations, name) : declarations_entity_of(declarations, name);
     if (is_in_value && entity != NULL && entity->etype == XML_EXTERNAL_GENERAL_PARSED_ENTITY) {
         fault_set(declarations->feed->fault, FAULT_MALFORMED, declarations_place(declarations),
                   "malformed XML: external entity '%s' in the value of an attribute", plain(entity->name));
@@ -183,7 +212,7 @@ size_t declarations_expand(struct declarations *declarations, struct span text, 
     if (!entity_text_next(&rest, &name) || name.data != text.data + 1) {
         return 0;
     }
-    xmlEntityPtr entity = declarations_entity_of(declarations, name);
+    xmlEntityPtr entity = in_value(declarations, name);
     bool is_one = entity != NULL && entity->etype == XML_INTERNAL_GENERAL_ENTITY && count_reference(declarations, entity);
     return is_one && add_value(declarations, entity, to) ? name.length + strlen("&;") : 0;
 }
@@ -282,20 +311,6 @@ static bool is_tall(struct declarations *declarations, const xmlEntity *entity) 
         declarations_refuse_levels(declarations);
     }
     return height > LEVELS_OF_LIBXML2;
-}
-
-/* What is read for an entity that is not declared, if it may be declared nowhere: nothing, unless what is not read may declare it. */
-static xmlEntityPtr undeclared(struct declarations *declarations, const xmlChar *name) {
-    const xmlParserCtxt *parser = declarations->feed->parser;
-    bool is_all_read = !declarations->is_unread && (!parser->hasExternalSubset || loads_external(declarations));
-    if (declarations->feed->fault->kind != FAULT_NONE || declarations_are_all(declarations) || !is_all_read) {
-        return NULL;
-    }
-    if (!declarations->has_skipped) {
-        declarations_note(declarations, declarations_place(declarations), "entity '%s' is not declared: it is read as nothing", name);
-    }
-    declarations->has_skipped = true;
-    return count_reference(declarations, &declarations->skipped) ? &declarations->skipped : NULL;
 }
 
 /* An entity that gives nothing in content. */

@@ -669,7 +669,7 @@ class Words(InFolder):
         for words in ((), ("--",), ("--bogus", "s.rnc"), ("-j",), ("-j", "x", "s.rnc"), ("-j", "-1", "s.rnc"), ("--format", "xml", "s.rnc"),
                       ("--map", "x", "s.rnc"), ("--datatypes", "all", "s.rnc"), ("--datatypes=", "s.rnc"), ("--max-depth", "0", "s.rnc"), ("--max-depth", "1K", "s.rnc"),
                       ("--max-attributes", "0", "s.rnc"), ("--files-from", "a", "--files-from=b", "s.rnc"),
-                      ("--max-attributes", "1000001", "s.rnc"), ("--max-attributes=1K", "s.rnc"), ("--max-attributes",), ("--max-memory", "x", "s.rnc"), ("--max-memory", "1KB", "s.rnc"), ("--max-memory=", "s.rnc"), ("--quiet", "--all", "s.rnc"), ("-", "good.xml"), ("--files-from", "-", "s.rnc", "-")):
+                      ("--max-attributes", "1000000001", "s.rnc"), ("--max-attributes=1K", "s.rnc"), ("--max-attributes",), ("--max-memory", "x", "s.rnc"), ("--max-memory", "1KB", "s.rnc"), ("--max-memory=", "s.rnc"), ("--quiet", "--all", "s.rnc"), ("-", "good.xml"), ("--files-from", "-", "s.rnc", "-")):
             out, errors, status = self.run_in(RNCV_XML, *words)
             self.assertEqual((out, status), ("", 5), words)
             self.assertRegex(errors, r"^rncv-xml: .*\nusage: rncv-xml .*\n$")

@@ -105,7 +105,8 @@ class WideTags(InFolder):
 
     def test_what_is_judged(self):
         for tag, subset in (("d='x'", ""), ("d='&e;&#10;'", "<!ENTITY e 'y '>"), ("p:d='w' e=''", ""), ("d='&e;'", "<!ENTITY e 'x'>"),
-                            ("d=' y  z '", "<!ATTLIST r d NMTOKENS 'x'>"), ("d='x'", "<!ATTLIST r d CDATA 'w'>"), ("p:a='' xmlns:q='v' q:a=''", "")):
+                            ("d=' y  z '", "<!ATTLIST r d NMTOKENS 'x'>"), ("d='x'", "<!ATTLIST r d CDATA 'w'>"), ("p:a='' xmlns:q='v' q:a=''", ""),
+                            ("d='&none;x'", "<!ENTITY % p ''> %p;")):
             self.assertEqual(self.judged(tag, subset), ("", 0), tag)
         for tag, subset in (("d='w'", ""), ("d='y \n'", ""), ("e=''", "<!ATTLIST r d CDATA 'w'>"), ("d='&e;'", "<!ENTITY e 'y\n'>")):
             self.assertEqual(self.judged(tag, subset)[1], 1, tag)
