@@ -254,11 +254,12 @@ static void cut(struct feed *feed, uint64_t end) {
     }
 }
 
-/* Forgets long markup that is being read, but its beginning and its last bytes. */
+/* Forgets long markup that is being read, but its beginning and its last bytes. In XML 1.1 a tag with a namespace by default may be looked at again. */
 static void forget_long(struct feed *feed) {
     uint64_t given = feed->begin + feed->given;
     uint64_t markup = feed_markup(feed);
-    if (feed->section.is_continued || given < markup + LONG_BYTES || feed_byte(feed, markup) != '<') {
+    bool is_kept = feed->decoding.is_1_1 && feed->defaults > 0;
+    if (is_kept || feed->section.is_continued || given < markup + LONG_BYTES || feed_byte(feed, markup) != '<') {
         return;
     }
     if (feed->long_at != markup) {

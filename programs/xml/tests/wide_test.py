@@ -124,6 +124,13 @@ class WideTags(InFolder):
         limit = "over a limit of this program: a tag has more than 1,500 attributes and declarations (--max-attributes)\n"
         self.assertEqual(self.judged("", "", "--max-attributes", "1500"), (f"wide.xml:2:1: {limit}", 2))
 
+    def test_defaults_taken_back(self):
+        """In XML 1.1 a long tag may take back a prefix that it has by default, but not one that it declares."""
+        self.write("any.rnc", "start = any any = element * { attribute * { text }*, any* }")
+        for declared, wanted in (("xmlns:p=''", ("", 0)), ("xmlns:p='' xmlns:p='u'", ("d.xml:2:4: malformed XML: the attribute xmlns:p is there twice\n", 2))):
+            self.write("d.xml", f"<?xml version='1.1'?><!DOCTYPE r [<!ATTLIST a xmlns:p CDATA 'u'>]>\n<r><a b='{'x' * 2_500_000}' {declared}/></r>")
+            self.assertEqual(self.judge("any.rnc", "d.xml"), wanted)
+
     def test_time_is_linear(self):
         """libxml2 would take minutes for them."""
         self.write("any.rnc", "start = element r { attribute * { text }* }")
