@@ -815,9 +815,9 @@ static size_t give_section(struct feed *feed, char *bytes, size_t most) {
     struct span next = not_given(feed);
     uint64_t offset = feed->begin + feed->given;
     size_t cut = SIZE_MAX;
-    if (feed->given > 0 && next.length >= most && most >= 2 * CUT_BYTES) {
+    if (next.length >= most && most >= 2 * CUT_BYTES) {
         next.length = good_count(feed, next, most - CUT_BYTES);
-        cut = section_cut_in(&feed->section, next.data[-1], offset, next);
+        cut = section_cut_in(&feed->section, offset, (struct span){feed->text.data, feed->text.length}, feed->given, next.length);
     }
     if (cut == SIZE_MAX) {
         size_t count = good_count(feed, not_given(feed), most);

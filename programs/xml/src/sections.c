@@ -6,12 +6,15 @@
 #define UNCUT_BYTES 1048576 /* of a section, before it is cut */
 #endif
 
-enum { TRIED_BYTES = 64 /* where it may be cut */ };
+enum {
+    TRIED_BYTES = 64, /* where it may be cut */
+    BEFORE_CUT = 2    /* bytes that have to be known there, since all but the last one of an end may be before a cut */
+};
 
-/* How sections begin and end, how libxml2 gets the rest of one, and the byte that may not be beside a cut, since it may be a part of the end. */
+/* How sections begin and end, how libxml2 gets the rest of one, and the byte by which markup_scan.h knows the kind. */
 static const struct section_kind {
     char begin[10], end[4], again[10];
-    char beside;
+    char kind;
 } kinds[] = {{"<![CDATA[", "]]>", "<![CDATA[", ']'}, {"<!--", "-->", "<!--", '-'}, {"<?", "?>", "<?x ", '?'}};
 
 /* The kind of the section at the start of a text, or NULL. The XML declaration is none. */
@@ -55,7 +58,7 @@ void section_look(struct section *section, uint64_t markup, struct span text, ui
         section->searched = section->content;
         section->has_end = false;
         section->has_target = false;
-        section->data = section->kind != NULL && section->kind->beside == '?' ? UINT64_MAX : section->content;
+        section->data = section->kind != NULL && section->kind->kind == '?' ? UINT64_MAX : section->content;
     }
     if (section->kind == NULL || section->has_end) {
         return;
@@ -70,7 +73,7 @@ void section_look(struct section *section, uint64_t markup, struct span text, ui
 
 bool section_is_read(const struct section *section, uint64_t markup, char *kind) {
     bool is_read = section->kind != NULL && (section->is_continued || section->is_cut || section->begin == markup);
-    *kind = is_read ? section->kind->beside : '\0';
+    *kind = is_read ? section->kind->kind : '\0';
     return is_read;
 }
 
@@ -81,19 +84,42 @@ void section_pass(struct section *section, uint64_t offset) {
     }
 }
 
-size_t section_cut_in(const struct section *section, char before, uint64_t offset, struct span next) {
+/* Whether the end is directly before the place. */
+static bool is_behind(struct span text, size_t at, const char *end) {
+    size_t length = strlen(end);
+    return at >= length && memcmp(text.data + at - length, end, length) == 0;
+}
+
+/* Whether the end begins before the place and ends behind it, or may do so, since not all of it is known. */
+static bool may_be_over(struct span text, size_t at, const char *end) {
+    size_t length = strlen(end);
+    bool may_be = false;
+    for (size_t before = 1; before < length && before <= at && !may_be; before++) {
+        struct span rest = span_from(text, at);
+        size_t known = rest.length < length - before ? rest.length : length - before;
+        may_be = memcmp(text.data + at - before, end, before) == 0 && memcmp(rest.data, end + before, known) == 0;
+    }
+    return may_be;
+}
+
+/* Whether the section may be cut at the place, behind at least two bytes that are known. `-` before the end of a comment is a fault (XML 1.0, 2.5). */
+static bool may_cut(const struct section *section, struct span text, size_t at) {
+    bool is_inside = ((unsigned char)text.data[at] & 0xC0) == 0x80;
+    bool is_before_end = section->kind->kind == '-' && text.data[at - 1] == '-';
+    return !is_inside && !is_before_end && !may_be_over(text, at, section->kind->end);
+}
+
+size_t section_cut_in(const struct section *section, uint64_t offset, struct span text, size_t given, size_t count) {
     bool is_open = section->kind != NULL && !section->has_end && !section->is_cut;
     size_t found = SIZE_MAX;
-    if (!is_open || offset <= section->data || offset < section->begin + UNCUT_BYTES) {
+    if (!is_open || offset <= section->data || offset < section->begin + UNCUT_BYTES || given < BEFORE_CUT) {
         return SIZE_MAX;
     }
-    for (size_t at = 0; at < next.length && at < TRIED_BYTES && found == SIZE_MAX; at++) {
-        char last = at == 0 ? before : next.data[at - 1];
-        bool is_inside = ((unsigned char)next.data[at] & 0xC0) == 0x80;
-        if (at > 0 && last == '>') {
-            return SIZE_MAX; /* it may be the end */
+    for (size_t at = 0; at < count && at < TRIED_BYTES && found == SIZE_MAX; at++) {
+        if (is_behind(text, given + at, section->kind->end)) {
+            return SIZE_MAX; /* the section has ended */
         }
-        found = !is_inside && last != section->kind->beside && next.data[at] != section->kind->beside ? at : SIZE_MAX;
+        found = may_cut(section, text, given + at) ? at : SIZE_MAX;
     }
     return found;
 }

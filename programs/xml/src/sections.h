@@ -34,8 +34,9 @@ bool section_is_read(const struct section *section, uint64_t markup, char *kind)
 /* Passes over bytes of the target of an instruction, up to the offset. */
 void section_pass(struct section *section, uint64_t offset);
 
-/* How many of the bytes that libxml2 gets next come before a cut; SIZE_MAX: there is none. `before` is the byte that it got last, at `offset`. */
-size_t section_cut_in(const struct section *section, char before, uint64_t offset, struct span next);
+/* How many of the bytes that libxml2 gets next come before a cut; SIZE_MAX: there is none. It has got so many of the text, up to the offset, and gets `count`
+ * more. */
+size_t section_cut_in(const struct section *section, uint64_t offset, struct span text, size_t given, size_t count);
 
 /* Puts the cut behind so many bytes of a text, which has room for it. Returns how long it is. `offset` is that of the text. */
 size_t section_cut(struct section *section, char *text, size_t length, size_t at, uint64_t offset);

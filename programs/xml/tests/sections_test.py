@@ -1,7 +1,10 @@
 """Tests of long comments, instructions and CDATA sections, which libxml2 gets in parts, and of a build that cuts and nests as soon as it can."""
 import os
+import pathlib
 import random
+import re
 import subprocess
+import tempfile
 import unittest
 
 import nesting_test
@@ -9,6 +12,8 @@ from testing import HERE, RNCV_XML, XML2PYX, InFolder, peak_of
 
 DOCUMENTS = int(os.environ.get("RNCV_XML_SECTIONS", "60"))
 ANY = "any = element * { (attribute * { text } | text | any)* } start = any"
+# How sections begin and end, and texts of them that are, or are nearly, of the bytes by which they end.
+KINDS = (("<!--", "-->", ("- ", "-\u3042", "->", "-<!")), ("<![CDATA[", "]]>", ("]", "] ", "]>", "]]\u3042", "] ]>")), ("<?p ", "?>", ("?", "? ", "??\u3042")))
 
 
 class Sections:
@@ -24,11 +29,11 @@ class Sections:
 
     def data(self):
         markup = ("<b>", "</b>", "<!--", "-->", "<?", "?>", "<![CDATA[")
-        text = self.body("]", "] ", "x]", ("x", "]", "]]", ">"), '<a b="1">&amp;| ', "\u3042]>x", "\n ", markup)
+        text = self.body("]", "] ", "x]", ("x", "]", "]]", ">"), ("]", "]", "]", ">"), '<a b="1">&amp;| ', "\u3042]>x", "\n ", markup)
         return f"<![CDATA[{text.replace(']]>', '] ]>')}{']' * self.chance.randrange(4)}]]>"
 
     def comment(self):
-        text = self.body("- ", "x-", "x", "\u3042-", "<!|>", "?> ", "\"'", ("<!-", "->", "]]>", "<b>"))
+        text = self.body("- ", "x-", ("- ", "->", "-\u3042"), "x", "\u3042-", "<!|>", "?> ", "\"'", ("<!-", "->", "]]>", "<b>"))
         while "--" in text and self.chance.random() < 0.99:
             text = text.replace("--", "- ")
         return f"<!--{text} -->"
@@ -49,12 +54,16 @@ class Sections:
 class Variant(InFolder):
     """A build of `xml2pyx` that cuts sections at each read, and puts all entities into one another."""
 
-    def setUp(self):
-        super().setUp()
+    @classmethod
+    def setUpClass(cls):
         flags = {"CFLAGS": "-O1 -DUNCUT_BYTES=1 -DLEVELS_OF_LIBXML2=0", "ONLY": "xml2pyx"}
-        self.program = self.folder / "a variant/xml2pyx"
-        build = subprocess.run([HERE / "build.sh", self.program.parent], capture_output=True, text=True, check=False, env={**os.environ, **flags})
-        self.assertEqual((build.returncode, build.stderr), (0, ""))
+        cls.builds = tempfile.TemporaryDirectory()
+        cls.program = pathlib.Path(cls.builds.name) / "a variant/xml2pyx"
+        subprocess.run([HERE / "build.sh", cls.program.parent], capture_output=True, text=True, check=True, env={**os.environ, **flags})
+
+    @classmethod
+    def tearDownClass(cls):
+        cls.builds.cleanup()
 
     def converted(self, program, data):
         """The PYX with each text on the line before, the places of its lines if all texts fit on one, what is reported, and the status."""
@@ -74,6 +83,37 @@ class Variant(InFolder):
         for seed in range(DOCUMENTS):
             document = nesting_test.System(seed).document(0)
             self.assertEqual(self.converted(self.program, document)[0], self.converted(XML2PYX, document)[0], seed)
+
+    def compared(self, document):
+        """Compares all but instructions, and what is quoted of sections: they are in parts. Returns whether the document is well-formed."""
+        both = []
+        for program in (self.program, XML2PYX):
+            out, places, reported, status = self.converted(program, document)
+            both.append((re.sub("(?m)^[?].*", "", out), places, re.split(": <!--|: PI", reported)[0], status))
+        self.assert_same(*both, document[:40])
+        return status == 0
+
+    def test_sections_of_the_bytes_of_their_ends(self):
+        for begin, end, pieces in KINDS:
+            for piece in pieces:
+                for before in ("", "x", "xy"):
+                    section = f"{begin}{before}{piece * 70_000}{'x' * (end[0] == '-')}{end}"
+                    self.assertTrue(self.compared(f"<a>{section}<b/></a>"), section[:20])
+                    self.assertFalse(self.compared(f"<a>{section}<b></a>"), section[:20])
+                    self.assertFalse(self.compared(f"<a>{section[:-1]}"), section[:20])
+
+    def test_ends_at_each_place(self):
+        for begin, end, pieces in KINDS:
+            for piece in pieces[:2]:
+                text = piece * 9_000
+                sections = (f"{begin}{text[:length]}{'x' * (end[0] == '-')}{end}" for length in range(3_900, 8_100))
+                self.assertTrue(self.compared(f"<a>{''.join(sections)}</a>"), piece)
+
+    def test_faults_in_comments(self):
+        chance = random.Random(1)
+        for _ in range(DOCUMENTS):
+            place = chance.randrange(4_000, 60_000)
+            self.assertFalse(self.compared(f"<a><!--{'- ' * (place // 2)}{chance.choice(('--', '---', '---->', ' --- '))}{'- ' * 9_000}x--></a>"), place)
 
 
 class Long(InFolder):
@@ -131,6 +171,13 @@ class Long(InFolder):
         for document, wanted in ((f"<!DOCTYPE{' ' * long}a><a/>", ("d.xml: valid\n", 0)), (f"<!DOCTYPE\na PUBLIC '{'x' * long}' ''><a/>", ("d.xml: valid\n", 0)),
                                  (f"<!DOCTYPEa{' ' * long}><a/>", ("d.xml:1:1: malformed XML: no blank after <!DOCTYPE\n", 2))):
             self.assert_same(self.judged(document), wanted)
+
+    def test_sections_of_the_bytes_of_their_ends(self):
+        """They are cut too: no more is held of them than of others."""
+        for begin, end, pieces in KINDS:
+            for piece in pieces:
+                self.write("d.xml", f"<a>{begin}{piece * (20_000_000 // len(piece.encode()))}{'x' * (end[0] == '-')}{end}</a>")
+                self.assert_same(self.judge("--all", "--max-memory", "8M", "any.rnc", "d.xml"), ("d.xml: valid\n", 0), begin + piece)
 
     def test_memory(self):
         self.without_sanitizers(RNCV_XML)
