@@ -371,6 +371,7 @@ static bool read_more(struct feed *feed) {
         feed->has_ended = true;
     } else {
         decoding_take(&feed->decoding, feed->room.data, length, &feed->text);
+        feed->shortening.scan.is_1_1 = feed->decoding.is_1_1;
     }
     if (feed->decoding.has_doubt && feed->doubt_at == UINT64_MAX) {
         feed->doubt_at = feed->begin + feed->decoding.doubt_at;

@@ -2,11 +2,14 @@
 
 #include "xml_names.h"
 
-enum { WORDS_OF_LIST = 2 /* before the attributes: `ATTLIST` and the name of the element */ };
+enum {
+    WORDS_OF_LIST = 2, /* before the attributes: `ATTLIST` and the name of the element */
+    DELETE = 0x7F      /* the first of the control characters that XML 1.0 allows as they are, and XML 1.1 does not */
+};
 
-/* Whether the code is that of a character, and of no control character. */
-static bool is_plain(uint32_t code) {
-    return code >= 0xA0 && code != 0xFFFE && code != 0xFFFF;
+/* Whether the code is that of a character that is in values and identifiers as it is. */
+static bool is_plain(const struct run_scan *scan, uint32_t code) {
+    return code >= (scan->is_1_1 ? 0xA0 : DELETE) && code != 0xFFFE && code != 0xFFFF;
 }
 
 static bool is_letter_or_digit(char byte) {
@@ -19,7 +22,7 @@ static bool is_one_of(char byte, const char *bytes) {
 
 /* Whether the byte, which is a character by itself, is in a value or an identifier, and nothing but itself. */
 static bool is_itself(char byte, const char *others) {
-    return byte > ' ' && byte < 0x7F && byte != '"' && byte != '\'' && !is_one_of(byte, others);
+    return byte > ' ' && byte < DELETE && byte != '"' && byte != '\'' && !is_one_of(byte, others);
 }
 
 /* Whether the byte, which is a character by itself and no quote, is in runs of this kind. */
@@ -70,7 +73,7 @@ static bool goes_on_with(const struct run_scan *scan, uint32_t code) {
         case RUN_VALUE:
         case RUN_WORD:
         case RUN_ENTITY:
-            return is_plain(code);
+            return is_plain(scan, code);
         case RUN_NONE:
         case RUN_BLANKS:
         case RUN_ZEROS:
@@ -89,7 +92,7 @@ static bool is_other_quote(const struct run_scan *scan, char byte) {
 /* How many bytes the character has with which the run goes on and that is not by itself in such runs; 0: it does not go on. */
 static size_t other_size(const struct run_scan *scan, struct span text) {
     size_t size = 1;
-    if ((unsigned char)text.data[0] < FIRST_OF_LONGER) {
+    if ((unsigned char)text.data[0] < DELETE) {
         return is_other_quote(scan, text.data[0]) ? 1 : 0;
     }
     return goes_on_with(scan, code_point(text, 0, &size)) ? size : 0;
@@ -224,11 +227,14 @@ static void look_in_literal(struct run_scan *scan, char byte) {
     }
 }
 
+void runs_restart(struct run_scan *scan, uint64_t offset) {
+    *scan = (struct run_scan){.looked = offset, .has_types = scan->has_types, .is_1_1 = scan->is_1_1};
+}
+
 /* Looks at the byte between declarations, or at the beginning of one. */
 static void look_in_subset(struct run_scan *scan, char byte) {
-    bool has_types = scan->has_types;
     if (scan->part == PART_OPENED) {
-        *scan = (struct run_scan){.looked = scan->looked, .has_types = has_types};
+        runs_restart(scan, scan->looked);
         scan->part = byte == '!' ? PART_DECLARATION : byte == '?' ? PART_NAME : PART_OTHER;
     } else if (byte == '%') {
         scan->reference = REFERENCE_BEGUN;
@@ -265,9 +271,8 @@ static void look_outside(struct run_scan *scan, char byte) {
 }
 
 void runs_begin(struct run_scan *scan, uint64_t offset, struct span text, bool is_declared) {
-    bool has_types = scan->has_types;
     bool is_declaration = span_begins(text, "<!") || span_begins(text, "<?");
-    *scan = (struct run_scan){.looked = offset, .has_types = has_types};
+    runs_restart(scan, offset);
     if (is_declaration || text.data[0] == '%') {
         scan->part = PART_SUBSET;
     } else if (text.data[0] == '&') {

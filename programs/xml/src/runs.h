@@ -44,6 +44,7 @@ struct run_scan {
     enum run_reference reference;
     uint64_t behind;       /* where the reference in content ends that was read; 0: none was */
     bool has_types;        /* values of attributes may have their blanks removed */
+    bool is_1_1;           /* the document is XML 1.1 */
     bool is_joined;        /* a colon is directly before */
     bool is_entity;        /* this is the declaration of one */
     bool is_list;          /* this is the declaration of attributes, .. */
@@ -56,6 +57,9 @@ struct run_scan {
     char word[WORD_BYTES]; /* the beginning of the last one */
     size_t word_length;
 };
+
+/* Forgets what was looked at, and goes on at the offset. What is known of the document stays. */
+void runs_restart(struct run_scan *scan, uint64_t offset);
 
 /* Begins to look at the markup that is at the start of the text, which has at least four bytes, at the offset. In a document type it may be the rest of a list
  * of attributes, from the name of one on, or of a content model, from a separator on. */

@@ -86,12 +86,14 @@ static void stop(struct shortening *shortening, uint64_t offset) {
 
 void shortening_begin_blanks(struct shortening *shortening, uint64_t offset) {
     struct run_scan *scan = &shortening->scan;
-    *scan = (struct run_scan){.looked = offset, .run = offset, .kind = RUN_BLANKS, .has_types = scan->has_types};
+    runs_restart(scan, offset);
+    scan->run = offset;
+    scan->kind = RUN_BLANKS;
     shortening->markup = UINT64_MAX;
 }
 
 void shortening_look_again(struct shortening *shortening) {
-    shortening->scan = (struct run_scan){.has_types = shortening->scan.has_types};
+    runs_restart(&shortening->scan, 0);
     shortening->markup = UINT64_MAX;
 }
 

@@ -175,6 +175,18 @@ class Variant(InFolder):
             document = f"<!DOCTYPE r [{subset}]>{tag}"
             self.assert_same(self.converted(self.tight, document), self.converted(self.whole, document), document[:40])
 
+    def test_control_characters(self):
+        """XML 1.0 has those from U+007F on as they are. None is taken for a mark of XML 1.1, which has them by references alone."""
+        for text in ("\x7f", "\u0085", "\x7fA\x7f", "\x80\x9f\x7f?"):
+            text *= 58_000 // len(text.encode())
+            for subset, tag in (("", f"<r a='{text}'/>"), (f"<!ATTLIST r a CDATA '{text}' xmlns:p CDATA '{text}'>", "<r/>"),
+                                (f"<!ENTITY e '{text}'>", "<r>&e;</r>"), (f"<!NOTATION n SYSTEM '{text}'>", "<r/>"), (f"<!ATTLIST r a NMTOKENS '{text}'>", f"<r xmlns:p='{text}'/>")):
+                for head in ("", "<?xml version='1.1'?>"):
+                    document = f"{head}<!DOCTYPE r [{subset}]>{tag}"
+                    found, wanted = self.converted(self.tight, document), self.converted(self.whole, document)
+                    self.assert_same(found, wanted, document[:60])
+                    self.assertEqual(wanted[-1], 0 if not head or "\x7f" not in text and "\x80" not in text else 2)
+
     def test_models(self):
         """libxml2 gets several declarations in the place of one with a long model."""
         def document(separator, end, *items):
