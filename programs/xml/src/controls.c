@@ -10,6 +10,15 @@ bool is_control(long code) {
     return code > 0 && code < ' ' && code != '\t' && code != '\n' && code != '\r';
 }
 
+bool add_control_mark(long code, struct bytes *to) {
+    bool is_marked = is_control(code) || code == DELETE;
+    if (is_marked) {
+        const char mark[] = {DELETE, (char)(code ^ LETTER_BIT), DELETE};
+        bytes_add(to, mark, sizeof mark);
+    }
+    return is_marked;
+}
+
 /* The value of a digit; -1: it is none. */
 static int digit_of(char byte, int base) {
     int value = byte >= '0' && byte <= '9' ? byte - '0' : byte >= 'a' && byte <= 'f' ? byte - 'a' + 10 : byte >= 'A' && byte <= 'F' ? byte - 'A' + 10 : base;

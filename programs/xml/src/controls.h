@@ -40,6 +40,9 @@ enum mark_part { MARK_NONE, MARK_BEGUN, MARK_NAMED };
 /* Whether the code is that of such a character. */
 bool is_control(long code);
 
+/* Adds the mark for the code. False: it is that of another character, which needs none. */
+bool add_control_mark(long code, struct bytes *to);
+
 /* Copies `count` bytes of the text, with marks in the place of references. The text goes on for LONGEST_CONTROL bytes more, unless the document ends. */
 void mark_controls(struct control_scan *scan, uint64_t offset, struct span text, char *to, size_t count);
 

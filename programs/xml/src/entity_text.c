@@ -1,5 +1,6 @@
 #include "entity_text.h"
 
+#include "controls.h"
 #include "xml_names.h"
 
 #include <stdlib.h>
@@ -173,11 +174,10 @@ void add_unmarked(struct span value, struct bytes *to) {
     }
 }
 
-/* Whether the code is that of a character that is allowed as it is, in all versions of XML. */
+/* Whether XML 1.0 has a character of the code. */
 static bool is_plain_code(long code) {
     bool is_blank = code == '\t' || code == '\n' || code == '\r';
-    bool is_left = code > 0x9F && code < 0xD800;
-    return is_blank || is_left || (code >= ' ' && code < 0x7F) || (code > 0xDFFF && code < 0xFFFE) || (code > 0xFFFF && code < MOST_CODE);
+    return is_blank || (code >= ' ' && code < 0xD800) || (code > 0xDFFF && code < 0xFFFE) || (code > 0xFFFF && code < MOST_CODE);
 }
 
 /* The code of the reference to one of the five entities that each document has; -1: it is none. */
@@ -193,12 +193,15 @@ static long predefined_code(struct span name) {
     return code;
 }
 
-size_t entity_text_character(struct span text, struct bytes *to) {
+size_t entity_text_character(struct span text, bool has_marks, struct bytes *to) {
     struct reference reference = reference_at(text);
     if (reference.length == 0) {
         return 0;
     }
     long code = reference.is_code ? reference.code : predefined_code((struct span){text.data + 1, reference.length - 2});
+    if (has_marks && add_control_mark(code, to)) {
+        return reference.length;
+    }
     if (!is_plain_code(code)) {
         return 0;
     }
@@ -219,10 +222,10 @@ static bool is_simple_name(struct span name) {
     return is_simple;
 }
 
-size_t entity_text_kept(struct span text, struct bytes *to) {
+size_t entity_text_kept(struct span text, bool has_marks, struct bytes *to) {
     struct reference reference = reference_at(text);
     if (reference.length == 0 || reference.is_code) {
-        return entity_text_character(text, to);
+        return entity_text_character(text, has_marks, to);
     }
     if (!is_simple_name((struct span){text.data + 1, reference.length - 2})) {
         return 0;
@@ -249,7 +252,7 @@ bool entity_text_decoded(struct span text, struct bytes *to) {
             bytes_add_byte(to, ' ');
             length = 1;
         } else if (length == 0) {
-            length = entity_text_character(text, to);
+            length = entity_text_character(text, false, to);
             is_good = length > 0;
         }
         text = span_from(text, length);

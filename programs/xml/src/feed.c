@@ -371,7 +371,6 @@ static bool read_more(struct feed *feed) {
         feed->has_ended = true;
     } else {
         decoding_take(&feed->decoding, feed->room.data, length, &feed->text);
-        feed->shortening.scan.is_1_1 = feed->decoding.is_1_1;
     }
     if (feed->decoding.has_doubt && feed->doubt_at == UINT64_MAX) {
         feed->doubt_at = feed->begin + feed->decoding.doubt_at;
@@ -693,6 +692,23 @@ static void pass(struct feed *feed, size_t length) {
     tell_doubt(feed);
 }
 
+/* Lets long markup be shortened by the rules of the document's version. In the text of an entity marks are in the place of references already. */
+static void set_version(struct feed *feed) {
+    feed->shortening.scan.is_1_1 = feed->decoding.is_1_1;
+    feed->shortening.has_marks = feed->decoding.is_1_1 && feed->inclusions.count == 0;
+}
+
+/* Leaves out a reference by itself, to a character or in the literal of an entity. Returns its length; 0: it stays. */
+static size_t leave_character(struct feed *feed, struct span next) {
+    const struct bytes *text = &feed->shortening.text;
+    size_t before = text->length;
+    size_t length = shortening_leave_reference(&feed->shortening, next);
+    if (length > 0 && feed->shortening.has_marks && has_control_marks((struct span){text->data + before, text->length - before})) {
+        feed_has_marks(feed);
+    }
+    return length;
+}
+
 /* Leaves out the reference at which libxml2 is in a value. Returns its length; 0: there is none, or it stays. */
 static size_t leave_reference(struct feed *feed) {
     if (!shortening_may_refer(&feed->shortening, not_given(feed)) || !read_for(feed, SHORT_BYTES)) {
@@ -700,7 +716,7 @@ static size_t leave_reference(struct feed *feed) {
     }
     struct span next = not_given(feed);
     next.length = next.length < SHORT_BYTES ? next.length : SHORT_BYTES;
-    size_t length = shortening_leave_reference(&feed->shortening, next);
+    size_t length = leave_character(feed, next);
     if (length > 0 || feed->shortening.scan.kind != RUN_VALUE) {
         return length;
     }
@@ -977,6 +993,7 @@ int feed_read(void *context, char *bytes, int length) {
     if (feed->text.length == feed->given || wanted == 0) {
         return 0;
     }
+    set_version(feed);
     size_t count = give(feed, bytes, wanted);
     if (count == 0) { /* all that came before the fault was left out, and libxml2 must not take that for the end */
         take_fault(feed);

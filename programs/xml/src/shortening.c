@@ -165,7 +165,8 @@ static bool is_allowed(const struct shortening *shortening, size_t before) {
 size_t shortening_leave_reference(struct shortening *shortening, struct span text) {
     struct bytes *to = &shortening->text;
     size_t before = to->length;
-    size_t length = shortening->scan.kind == RUN_ENTITY ? entity_text_kept(text, to) : entity_text_character(text, to);
+    bool has_marks = shortening->has_marks;
+    size_t length = shortening->scan.kind == RUN_ENTITY ? entity_text_kept(text, has_marks, to) : entity_text_character(text, has_marks, to);
     if (length == 0 || !is_allowed(shortening, before)) {
         to->length = to->failed ? to->length : before;
         return 0;

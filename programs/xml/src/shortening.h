@@ -40,6 +40,7 @@ struct shortening {
     struct left_out left;
     struct long_uris uris;
     struct bytes whole;  /* room for the values of a tag that are written again */
+    bool has_marks;      /* references to control characters become marks (controls.h) */
     bool failed;         /* memory ran out */
 };
 
