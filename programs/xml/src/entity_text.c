@@ -209,17 +209,15 @@ size_t entity_text_character(struct span text, bool has_marks, struct bytes *to)
     return reference.length;
 }
 
-static bool is_letter(char byte) {
-    return (byte >= 'a' && byte <= 'z') || (byte >= 'A' && byte <= 'Z');
-}
-
-/* Whether the text is a name of letters and digits of ASCII. */
-static bool is_simple_name(struct span name) {
-    bool is_simple = name.length > 0 && is_letter(name.data[0]);
-    for (size_t at = 1; at < name.length && is_simple; at++) {
-        is_simple = is_letter(name.data[at]) || (name.data[at] >= '0' && name.data[at] <= '9');
+/* Whether the text is a Name (XML 1.0, production 5), which may have colons. */
+static bool is_name(struct span text) {
+    bool is_good = text.length > 0;
+    size_t size = 1;
+    for (size_t at = 0; at < text.length && is_good; at += size) {
+        uint32_t code = code_point(text, at, &size);
+        is_good = code == ':' || is_name_character(code, at == 0);
     }
-    return is_simple;
+    return is_good;
 }
 
 size_t entity_text_kept(struct span text, bool has_marks, struct bytes *to) {
@@ -227,7 +225,7 @@ size_t entity_text_kept(struct span text, bool has_marks, struct bytes *to) {
     if (reference.length == 0 || reference.is_code) {
         return entity_text_character(text, has_marks, to);
     }
-    if (!is_simple_name((struct span){text.data + 1, reference.length - 2})) {
+    if (!is_name((struct span){text.data + 1, reference.length - 2})) {
         return 0;
     }
     bytes_add(to, text.data, reference.length);

@@ -44,7 +44,7 @@ void entity_text_marked(struct span text, struct bytes *to);
 size_t entity_text_character(struct span text, bool has_marks, struct bytes *to);
 
 /* Adds what the reference at the start of a text is in the literal of an entity: a character by its number, or the reference as it is. Returns its length; 0:
- * there is none, or its name has other characters than letters and digits of ASCII. */
+ * there is none, or it breaks XML. */
 size_t entity_text_kept(struct span text, bool has_marks, struct bytes *to);
 
 /* Adds a text as the value of an attribute. It may have marks of controls.h: a delete by a reference is the beginning of one. False: it has a reference that is

@@ -209,6 +209,16 @@ class Variant(InFolder):
                 is_good = self.assert_equal(f"{head}<!DOCTYPE r [{subset}]>{tag}", (text[-9:], subset, tag[:9]))
                 self.assertTrue("xmlns" in subset + tag or is_good == (status == 0))
 
+    def test_references_to_entities_in_literals(self):
+        """They stay as they are, by whatever name. One that is no name is a fault, which is found where it is."""
+        for name, status in (("a-b", 0), ("_.7", 0), ("\u00e9\u3042", 0), ("a\u00b7\u0300", 0), ("\U00010000", 0), ("-a", 2), ("a$", 2), ("\u00b7a", 2),
+                             ("a\u00d7", 2), ("7", 2), ("a\ufffd", 0), ("a\u037e", 2), ("a:b", 0), (":", 0)):
+            text = f"&{name};" * (90_000 // len(f"&{name};".encode()))
+            for before in ("", f"<!ENTITY {name if status == 0 else 'x'} 'v'>") if ":" not in name else ("",):
+                document = f"<!DOCTYPE r [{before}<!ENTITY e '{text}'>]><r>{'&e;' if before else ''}</r>"
+                self.assertEqual(self.assert_equal(document, name), status == 0)
+                self.assertEqual(self.converted(self.tight, document)[-1], status)
+
     def test_models(self):
         """libxml2 gets several declarations in the place of one with a long model."""
         def document(separator, end, *items):
