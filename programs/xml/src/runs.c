@@ -89,11 +89,16 @@ static bool is_other_quote(const struct run_scan *scan, char byte) {
     return is_quote && scan->kind >= RUN_PUBLIC && byte != scan->quote;
 }
 
+/* Whether the byte is a `#` behind the first one of a system identifier. By that one libxml2 finds that there is a fragment. */
+static bool is_in_fragment(const struct run_scan *scan, char byte) {
+    return byte == '#' && scan->kind == RUN_SYSTEM && scan->has_fragment;
+}
+
 /* How many bytes the character has with which the run goes on and that is not by itself in such runs; 0: it does not go on. */
 static size_t other_size(const struct run_scan *scan, struct span text) {
     size_t size = 1;
     if ((unsigned char)text.data[0] < DELETE) {
-        return is_other_quote(scan, text.data[0]) ? 1 : 0;
+        return is_other_quote(scan, text.data[0]) || is_in_fragment(scan, text.data[0]) ? 1 : 0;
     }
     return goes_on_with(scan, code_point(text, 0, &size)) ? size : 0;
 }
@@ -158,6 +163,7 @@ static void open_literal(struct run_scan *scan, char quote) {
     scan->quote = quote;
     scan->sure = scan->looked + 1;
     scan->literals++;
+    scan->has_fragment = false;
     begin_run(scan, scan->literal, scan->sure);
 }
 
@@ -222,6 +228,8 @@ static void look_in_literal(struct run_scan *scan, char byte) {
         scan->part = PART_OTHER; /* libxml2 finds a fault there */
     } else if (byte == '&') {
         scan->reference = REFERENCE_BEGUN;
+    } else if (byte == '#' && scan->literal == RUN_SYSTEM && !scan->has_fragment) {
+        scan->has_fragment = true;
     } else {
         begin_run(scan, scan->literal, scan->looked);
     }

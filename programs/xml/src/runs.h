@@ -51,6 +51,7 @@ struct run_scan {
     bool was_text;         /* .. and the word before the last one is `CDATA` */
     char quote;            /* of the literal that is being read; 0: none is */
     enum run_kind literal; /* the kind of its runs */
+    bool has_fragment;     /* it is a system identifier, and has a `#` that is in no run */
     uint64_t sure;         /* the offset from which on it has nothing at which libxml2 may find a fault */
     unsigned literals;     /* that were read */
     unsigned words;        /* the names that were begun */

@@ -3,6 +3,8 @@
 #include "entity_text.h"
 #include "xml_names.h"
 
+enum { BEFORE_CUT = 2 /* bytes that are looked at before a cut of a system identifier */ };
+
 void shortening_free(struct shortening *shortening) {
     bytes_free(&shortening->text);
     bytes_free(&shortening->whole);
@@ -112,14 +114,33 @@ size_t shortening_most(const struct shortening *shortening, uint64_t offset, siz
     return is_at_end && most > 8 * IN_PLACE_BYTES ? most - 5 * IN_PLACE_BYTES : most;
 }
 
+/* The place of `%41` in a system identifier if the place is inside of it, and it is in the run that begins at `run`, or the place itself. Of a part of `%41`
+ * libxml2 would say that it is no URI. */
+static size_t before_escape(struct span text, size_t run, size_t at) {
+    size_t found = at;
+    for (size_t before = 1; before <= BEFORE_CUT && before <= at && at - before >= run; before++) {
+        found = text.data[at - before] == '%' ? at - before : found;
+    }
+    return found;
+}
+
+/* The place in the next bytes at which a run is cut that libxml2 need not get from the offset on. */
+static size_t cut_at(const struct run_scan *scan, const struct offered *offered, uint64_t enough) {
+    size_t cut = character_at(offered->next, (size_t)(enough - offered->offset));
+    size_t run = scan->run > offered->offset ? (size_t)(scan->run - offered->offset) : 0;
+    return scan->kind == RUN_SYSTEM ? before_escape(offered->next, run, cut) : cut;
+}
+
 /* Where the run is cut; SIZE_MAX: it is not. */
 static size_t cut_of(const struct shortening *shortening, const struct offered *offered) {
+    const struct run_scan *scan = &shortening->scan;
     uint64_t offset = offered->offset;
     uint64_t enough = enough_of(shortening, offset, offered->held);
-    bool is_there = enough >= offset && enough < shortening->scan.looked && enough - offset < offered->next.length;
-    size_t cut = is_there ? character_at(offered->next, (size_t)(enough - offset)) : SIZE_MAX;
-    bool is_moved = shortening->scan.kind == RUN_NAME && offset + cut > enough; /* a name is always cut at the same place */
-    return is_there && !is_moved && offset + cut < shortening->scan.looked ? cut : SIZE_MAX;
+    enough = scan->kind == RUN_SYSTEM ? later(enough, offset + BEFORE_CUT) : enough; /* so that it is known what is before */
+    bool is_there = enough >= offset && enough < scan->looked && enough - offset < offered->next.length;
+    size_t cut = is_there ? cut_at(scan, offered, enough) : SIZE_MAX;
+    bool is_moved = scan->kind == RUN_NAME && offset + cut > enough; /* a name is always cut at the same place */
+    return is_there && !is_moved && offset + cut < scan->looked ? cut : SIZE_MAX;
 }
 
 /* Writes spaces in the place of other blanks from `begin` on, as libxml2 does in values. */

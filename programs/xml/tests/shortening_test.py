@@ -71,7 +71,7 @@ class Long:
 
     def identifier(self):
         public = self.text("ab -/:") + ("" if self.chance.random() < 0.9 else self.chance.choice("^\u3042"))
-        system = self.text("ab /%\u3042")
+        system = self.text(self.chance.choice(("ab /%\u3042", ("#", "a"), ("%41", "b"), ("%41", "b", "#"))))
         return self.chance.choice((f'SYSTEM{self.blank()}"{system}"', f"PUBLIC '{public}' '{self.text('ab')}'", f'PUBLIC "{public}"'))
 
     def model(self):
@@ -219,6 +219,16 @@ class Variant(InFolder):
                 self.assertEqual(self.assert_equal(document, name), status == 0)
                 self.assertEqual(self.converted(self.tight, document)[-1], status)
 
+    def test_system_identifiers(self):
+        """libxml2 says that one has a fragment, or is no URI, if it says so of the whole one."""
+        declarations = ("<!NOTATION n SYSTEM '{}'>", "<!ENTITY e SYSTEM '{}'>", "<!ENTITY % p SYSTEM '{}'>%p;<!ENTITY e 'v'>",
+                        f"<!ENTITY % p PUBLIC '{'p' * 9_000}' '{{}}'><!ENTITY % p 'v'><!ENTITY e '&#37;p;'>", "<!ENTITY e SYSTEM '{}' NDATA n>")
+        for text in ("#" * 30_000, "a" * 12_000 + "#b" * 9_000, "a#" + "b" * 9_000 + "##" * 9_000, "%41" * 9_000, "a%41" * 9_000,
+                     "ab%41%42" * 4_000 + "#c%44" * 4_000):
+            for at in range(6):
+                for declaration in declarations:
+                    self.assert_equal(f"<!DOCTYPE r [{declaration.format('x' * at + text)}<!ATTLIST r a CDATA 'b'>]><r/>", (text[:9], at, declaration))
+
     def test_models(self):
         """libxml2 gets several declarations in the place of one with a long model."""
         def document(separator, end, *items):
@@ -317,6 +327,8 @@ class Whole(InFolder):
         blanks = " \n" * 6_000_000
         zeros = "0" * 12_000_000
         for document, status in ((f"<!DOCTYPE r [<!NOTATION n PUBLIC '{long}' '{long}'>]><r/>", 0), (f"<!DOCTYPE r [<!NOTATION n PUBLIC '{long}^'>]><r/>", 2),
+                                 (f"<!DOCTYPE r [<!NOTATION n SYSTEM '{'#' * 12_000_000}'><!ENTITY e SYSTEM '{'a#' * 6_000_000}'>]><r/>", 0),
+                                 (f"<!DOCTYPE r [<!NOTATION n PUBLIC '' '{'#%7F' * 3_000_000}'><!ENTITY e SYSTEM '{chr(127) * 12_000_000}'>]><r/>", 0),
                                  (f"<!DOCTYPE r [<!ENTITY SYSTEM '{long}'>]><r>&SYSTEM;</r>", 0), (f"<r a='&#{zeros}65;'>&#x{zeros}41;</r>", 0),
                                  (f"<r a='&#{zeros};'/>", 2), (f"<r{blanks}a{blanks}={blanks}'1'{blanks}>{blanks}</r{blanks}>{blanks}", 0),
                                  (f"<r{blanks}a='1'b='2'/>", 2), (f"{blanks}<!DOCTYPE{blanks}r{blanks}[{blanks}<?a{blanks}b?>]>{blanks}<r/>", 0)):
