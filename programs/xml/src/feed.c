@@ -896,20 +896,35 @@ static size_t attribute_end(const struct feed *feed, size_t most) {
 
 /* The next attribute. More of the text is read for it. */
 static struct attribute_text next_attribute(struct feed *feed) {
-    struct attribute_text found = attribute_at(not_given(feed));
+    bool is_1_1 = feed->decoding.is_1_1;
+    struct attribute_text found = attribute_at(not_given(feed), is_1_1);
     size_t wanted = PIECE_BYTES;
     while (found.is_cut && wanted <= MOST_AHEAD && may_have_more(feed) && read_for(feed, wanted)) {
-        found = attribute_at(not_given(feed));
+        found = attribute_at(not_given(feed), is_1_1);
         wanted *= 2;
     }
     return found;
+}
+
+/* Leaves out an attribute of a wide tag. False: it has to stay. */
+static bool leave_attribute(struct feed *feed, const struct attribute_text *attribute) {
+    const struct reference_reader reader = {feed->expand, feed->context, feed->shortening.has_marks};
+    if (attribute->length == 0 || feed->fault->kind != FAULT_NONE || !wide_tag_add(&feed->wide, attribute, &reader)) {
+        return false;
+    }
+    size_t length = 0;
+    const char *value = reader.has_marks ? wide_tag_value(&feed->wide, feed->wide.count - 1, &length) : NULL;
+    if (has_control_marks((struct span){value, length})) {
+        feed_has_marks(feed);
+    }
+    return true;
 }
 
 /* Leaves out attributes of a wide tag, as long as they are usual. */
 static void leave_attributes(struct feed *feed) {
     uint64_t begin = feed->begin + feed->given;
     struct attribute_text next = next_attribute(feed);
-    while (next.length > 0 && feed->fault->kind == FAULT_NONE && wide_tag_add(&feed->wide, &next, feed->expand, feed->context)) {
+    while (leave_attribute(feed, &next)) {
         shortening_pass_attribute(&feed->shortening, next.length);
         pass(feed, next.length);
         feed->scan.count++;

@@ -30,8 +30,8 @@ static bool is_declaration(struct span name) {
 }
 
 /* The length of the value at the start of the text, up to its quote; that of the text if this is not there. What may not be in a value ends it too. */
-static size_t value_length(struct span text, char quote) {
-    const struct run_scan value = {.kind = RUN_VALUE, .quote = quote};
+static size_t value_length(struct span text, char quote, bool is_1_1) {
+    const struct run_scan value = {.kind = RUN_VALUE, .quote = quote, .is_1_1 = is_1_1};
     size_t at = run_length(&value, text);
     while (at < text.length && text.data[at] == '&') {
         at += 1 + run_length(&value, span_from(text, at + 1));
@@ -46,7 +46,7 @@ static size_t behind_equals(struct span text, size_t at) {
     return is_there ? at + 1 + blanks_of(span_from(text, at + 1)) : at < text.length ? 0 : at;
 }
 
-struct attribute_text attribute_at(struct span text) {
+struct attribute_text attribute_at(struct span text, bool is_1_1) {
     static const struct attribute_text none = {0, false, {"", 0}, {"", 0}};
     static const struct attribute_text cut = {0, true, {"", 0}, {"", 0}};
     size_t colon = 0;
@@ -65,7 +65,7 @@ struct attribute_text attribute_at(struct span text) {
     if (quote == 0 || (text.data[quote] != '"' && text.data[quote] != '\'') || !is_qname(name, &colon) || is_declaration(name)) {
         return none;
     }
-    struct span value = {text.data + quote + 1, value_length(span_from(text, quote + 1), text.data[quote])};
+    struct span value = {text.data + quote + 1, value_length(span_from(text, quote + 1), text.data[quote], is_1_1)};
     size_t end = quote + 1 + value.length;
     if (end >= text.length) {
         return cut;
@@ -80,15 +80,15 @@ static size_t plain_length(struct span text) {
 }
 
 /* Adds a value, with what its references give. */
-static bool add_value(struct bytes *to, struct span value, expand_reference *expand, void *context) {
+static bool add_value(struct bytes *to, struct span value, const struct reference_reader *reader) {
     bool is_good = true;
     while (value.length > 0 && is_good) {
         size_t length = plain_length(value);
         is_good = entity_text_decoded((struct span){value.data, length}, to);
         value = span_from(value, length);
-        length = value.length == 0 ? 0 : entity_text_character(value, to);
+        length = value.length == 0 ? 0 : entity_text_character(value, reader->has_marks, to);
         if (value.length > 0 && length == 0 && is_good) {
-            length = expand(context, value, to);
+            length = reader->expand(reader->context, value, to);
         }
         is_good = is_good && !to->failed && (value.length == 0 || length > 0);
         value = span_from(value, length);
@@ -110,12 +110,12 @@ static bool has_room(struct wide_tag *tag) {
     return longer != NULL;
 }
 
-bool wide_tag_add(struct wide_tag *tag, const struct attribute_text *attribute, expand_reference *expand, void *context) {
+bool wide_tag_add(struct wide_tag *tag, const struct attribute_text *attribute, const struct reference_reader *reader) {
     struct bytes *text = &tag->text;
     size_t begin = text->length;
     bytes_add(text, attribute->name.data, attribute->name.length);
     size_t value = text->length;
-    if (!has_room(tag) || !add_value(text, attribute->value, expand, context)) {
+    if (!has_room(tag) || !add_value(text, attribute->value, reader)) {
         text->length = text->failed ? text->length : begin;
         return false;
     }

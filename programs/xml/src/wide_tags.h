@@ -41,13 +41,21 @@ struct attribute_text {
     struct span value; /* without the quotes */
 };
 
-struct attribute_text attribute_at(struct span text);
+/* In a document of XML 1.0 or 1.1. */
+struct attribute_text attribute_at(struct span text, bool is_1_1);
 
 /* Adds what the reference at the start of the text, to an entity, gives in a value. Returns its length; 0: it may not be there. */
 typedef size_t expand_reference(void *context, struct span text, struct bytes *to);
 
+/* How references in values are read. */
+struct reference_reader {
+    expand_reference *expand;
+    void *context;
+    bool has_marks; /* those to control characters become marks (controls.h) */
+};
+
 /* Adds the attribute. False: its value has a reference that can not be read here, or memory ran out, and then the text has failed. */
-bool wide_tag_add(struct wide_tag *tag, const struct attribute_text *attribute, expand_reference *expand, void *context);
+bool wide_tag_add(struct wide_tag *tag, const struct attribute_text *attribute, const struct reference_reader *reader);
 
 /* Forgets the attributes of a tag. */
 void wide_tag_forget(struct wide_tag *tag);

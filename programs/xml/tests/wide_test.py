@@ -19,6 +19,7 @@ class Wide:
         self.chance = random.Random(seed)
         self.next = 0
         self.wrong = 0.002 if self.chance.random() < 0.4 else 0
+        self.version = "1.1" if self.chance.random() < 0.15 else "1.0"
 
     def is_wrong(self):
         return self.chance.random() < self.wrong
@@ -31,7 +32,8 @@ class Wide:
 
     def value(self):
         pieces = ("x", "\u3042", " ", "\n\t", "&#10;", "&#x3042;", "&lt;", "&amp;", "&e;", "&f;", ">", "'", "{left-out:", "&#32; ", "&quot;")
-        wrong = ("<", "&", "&none;", "&tag;", "&loop;", "&#1;", "&#0;", "&e", "\"", "\u0085", "\x7f")
+        pieces += ("&#133;", "\u0085") + (("&#1;", "&#127;", "&#x00000000001F;") if self.version == "1.1" else ("\x7f", "\u0080", "&#127;"))
+        wrong = ("<", "&", "&none;", "&tag;", "&loop;", "&#1;", "&#0;", "&e", "\"", "\x7f", "\u0081")
         text = "".join(self.chance.choice(pieces) for _ in range(self.chance.choice((0, 1, 1, 3)))) * self.chance.choice((1, 1, 1, 1, 200))
         return text + (self.chance.choice(wrong) if self.is_wrong() else "")
 
@@ -55,9 +57,8 @@ class Wide:
         names = ("a1", "p:a2", "b700", "c", "d", "xml:space")
         kinds = ("CDATA 'd'", "NMTOKENS ' d  e '", "NMTOKENS #IMPLIED")
         declared = "".join(f"<!ATTLIST r {name} {self.chance.choice(kinds)}>" for name in names if self.chance.random() < 0.3)
-        version = '<?xml version="1.1"?>' if self.chance.random() < 0.1 else ""
         root = f"<s xmlns:p='u' xmlns:q='{self.chance.choice('vu')}'>x{self.tag('>')}{self.tag('/>')}</r>{self.tag('/>')}</s>"
-        return f"{version}<!DOCTYPE s [{ENTITIES}{declared}]>\n{root}<?p?>"
+        return f"<?xml version='{self.version}'?><!DOCTYPE s [{ENTITIES}{declared}]>\n{root}<?p?>"
 
 
 class WideTags(InFolder):
