@@ -634,13 +634,23 @@ void feed_has_marks(struct feed *feed) {
     }
 }
 
+/* Copies so many bytes of XML 1.1, with marks in the place of references to control characters. Texts of entities have their marks already, and of a long
+ * reference the mark begins with a reference. */
+static void write_marked(struct feed *feed, struct span text, char *bytes, size_t count) {
+    uint64_t offset = feed->begin + feed->given;
+    uint64_t own = included_up_to(&feed->inclusions);
+    size_t included = own <= offset ? 0 : own - offset < count ? (size_t)(own - offset) : count;
+    memcpy(bytes, text.data, included);
+    mark_controls(&feed->controls, offset + included, span_from(text, included), bytes + included, count - included);
+}
+
 /* Writes so many bytes for libxml2. */
 static void write_bytes(struct feed *feed, char *bytes, size_t count) {
     const char *from = feed->text.data + feed->given;
     size_t left = feed->text.length - feed->given;
     bool had_marks = feed->controls.has_marks;
     if (feed->decoding.is_1_1) {
-        mark_controls(&feed->controls, feed->begin + feed->given, (struct span){from, left}, bytes, count);
+        write_marked(feed, (struct span){from, left}, bytes, count);
     } else {
         memcpy(bytes, from, count);
     }

@@ -128,9 +128,17 @@ bool inclusions_read(struct inclusions *inclusions, struct bytes *to, uint64_t b
     return true;
 }
 
+/* The offset of the reference behind the text of the entity; UINT64_MAX: it is not known. */
+static uint64_t end_of(const struct inclusions *inclusions, const struct inclusion *open) {
+    return open->has_end ? open->end + (inclusions->included - open->included) : UINT64_MAX;
+}
+
 uint64_t inclusion_end(const struct inclusions *inclusions) {
-    const struct inclusion *last = inclusions->count == 0 ? NULL : &inclusions->open[inclusions->count - 1];
-    return last == NULL || !last->has_end ? UINT64_MAX : last->end + (inclusions->included - last->included);
+    return inclusions->count == 0 ? UINT64_MAX : end_of(inclusions, &inclusions->open[inclusions->count - 1]);
+}
+
+uint64_t included_up_to(const struct inclusions *inclusions) {
+    return inclusions->count == 0 ? 0 : end_of(inclusions, &inclusions->open[0]);
 }
 
 void inclusions_close(struct inclusions *inclusions, uint64_t offset) {

@@ -79,6 +79,9 @@ bool inclusions_read(struct inclusions *inclusions, struct bytes *to, uint64_t b
 /* The offset of the reference behind the innermost text; UINT64_MAX: it is not known, or there is none. */
 uint64_t inclusion_end(const struct inclusions *inclusions);
 
+/* The offset up to which libxml2 gets texts of entities from the outermost one on; UINT64_MAX: it is not known; 0: it gets none. */
+uint64_t included_up_to(const struct inclusions *inclusions);
+
 /* How many elements are open around the innermost entity; 0: there is none. */
 static inline size_t inclusion_depth(const struct inclusions *inclusions) {
     return inclusions->count == 0 ? 0 : inclusions->open[inclusions->count - 1].depth;

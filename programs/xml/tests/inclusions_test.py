@@ -29,7 +29,9 @@ class Entities:
     def text(self):
         pieces = ["x", "0123456789", "\u3042", "\n", "\t ", "]]", ">", "]", "\u00e9\u00e8", "%", "\U0001F600"]
         pieces += ["&#13;", "&#38;#10;", "&#10;", "&amp;", "&#38;lt;", "&#38;#13;", "&#9;", "&#x0000000000003042;", "&#38;#x0000000000003042;"]
-        pieces += ["&#1;", "&#38;#1;", "&#127;", "&#38;#127;", "\u0085"] if self.version == "1.1" else ["\x7f"]
+        zeros = "0" * 70
+        controls = ["&#1;", "&#38;#1;", "&#127;", "&#38;#127;", "\u0085", f"&#38;#{zeros}127;A", f"&#38;#x{zeros}1;", f"&#{zeros}127;"]
+        pieces += controls if self.version == "1.1" else ["\x7f"]
         return self.chance.choice(pieces) * self.chance.choice((1, 1, 1, 3, 100, 900))
 
     def reference(self, names):
