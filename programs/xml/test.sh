@@ -21,7 +21,7 @@ export RNCV_XML_PROGRAMS RNCV_PROGRAM
 converters() {
     python3 -B "$here/converter/test_converter.py" || return 1
     if [ -x "$RNCV_XML_PROGRAMS/xml2pyx" ]; then
-        for part in conversion nesting sections shortening inclusions wide references declaration; do
+        for part in conversion nesting sections shortening choices inclusions wide references declaration; do
             python3 -B "$here/tests/${part}_test.py" || return 1
         done
     else

@@ -99,6 +99,11 @@ struct place declarations_place(struct declarations *declarations) {
     return feed_place(feed, feed_last(feed, offset, feed->parser->instate == XML_PARSER_CONTENT ? "&" : "<"));
 }
 
+struct place declarations_parameter_place(struct declarations *declarations) {
+    struct feed *feed = declarations->feed;
+    return feed_place(feed, feed->is_away ? declarations->doctype : feed_last(feed, feed_offset(feed), "%"));
+}
+
 void declarations_refuse(struct declarations *declarations, const char *what) {
     fault_set(declarations->feed->fault, FAULT_OUTSIDE, declarations_place(declarations), "%s", what);
 }
@@ -189,14 +194,11 @@ void declarations_check_behind(struct declarations *declarations) {
     }
 }
 
-/* Refuses the text of an entity that libxml2 would take long for, since it compares attributes and choices in pairs. */
+/* Refuses the text of an entity that libxml2 would take long for, since it compares attributes in pairs. */
 static void check_text(struct declarations *declarations, struct span text, bool is_parameter) {
     struct feed *feed = declarations->feed;
     if (!is_parameter && has_too_many_attributes(text, feed->most_attributes)) {
         feed_refuse(feed, declarations_place(declarations), too_many_attributes, feed->most_attributes, "--max-attributes");
-    }
-    if (is_parameter && has_too_many_choices(text, feed->most_attributes)) {
-        feed_refuse(feed, declarations_place(declarations), too_many_choices, feed->most_attributes, "--max-attributes");
     }
 }
 
@@ -384,8 +386,13 @@ static struct twin *load(struct declarations *declarations, const xmlEntity *ent
 }
 
 void declarations_flatten(struct declarations *declarations, char *text, size_t length) {
-    if (!make_declarations_shallow(text, length, declarations->feed->models.most)) {
+    struct feed *feed = declarations->feed;
+    if (!make_declarations_shallow(text, length, feed->models.most)) {
         declarations_out_of_memory(declarations);
+    }
+    if (has_too_many_choices((struct span){text, length}, feed->most_attributes)) {
+        feed_refuse(feed, declarations_parameter_place(declarations), too_many_choices, feed->most_attributes, "--max-attributes");
+        memset(text, ' ', length); /* libxml2 would compare them in pairs before it sees that there is a fault */
     }
 }
 

@@ -145,7 +145,7 @@ void declarations_keep_long(struct declarations *declarations, bool is_parameter
 /* The entity of a name, or NULL. */
 xmlEntityPtr declarations_entity_of(struct declarations *declarations, struct span name);
 
-/* Makes the content models in a text of declarations shallow (models.h). */
+/* Makes the content models in a text of declarations shallow, and leaves out choices (models.h). Refuses a text with too many of them. */
 void declarations_flatten(struct declarations *declarations, char *text, size_t length);
 void declarations_flatten_twin(struct declarations *declarations, struct twin *twin);
 
@@ -164,6 +164,9 @@ void declarations_note(struct declarations *declarations, struct place place, co
 
 /* The place of the reference, the declaration or the tag at which libxml2 is. */
 struct place declarations_place(struct declarations *declarations);
+
+/* The place of the reference to a parameter entity that libxml2 has read, or of the document type if the external DTD has it. */
+struct place declarations_parameter_place(struct declarations *declarations);
 
 static inline const char *plain(const xmlChar *text) {
     return text == NULL ? "" : (const char *)text;

@@ -556,8 +556,7 @@ static bool is_in_declaration(struct declarations *declarations) {
 
 /* Notes that a parameter entity is not read. One that is declared nowhere has nothing, unless one that was not read before it may declare it. */
 static void note_unread(struct declarations *declarations, const xmlEntity *entity, const xmlChar *name) {
-    struct feed *feed = declarations->feed;
-    struct place place = feed_place(feed, feed->is_away ? declarations->doctype : feed_last(feed, feed_offset(feed), "%"));
+    struct place place = declarations_parameter_place(declarations);
     if (entity != NULL) {
         declarations_note(declarations, place, "the parameter entity '%s' is not loaded: its entities and attribute defaults are not there", entity->SystemID);
     } else {

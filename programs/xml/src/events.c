@@ -1338,10 +1338,10 @@ static void take_notation(void *context, const xmlChar *name, const xmlChar *pub
     move_on(context);
 }
 
-/* Refuses a declaration with too many choices that came at once. */
+/* Refuses a declaration in entities with too many choices that came at once. The document itself may have any number: libxml2 gets few of them. */
 static void check_choices(struct reader *reader, const xmlEnumeration *choices) {
     size_t count = 0;
-    for (const xmlEnumeration *at = choices; at != NULL; at = at->next) {
+    for (const xmlEnumeration *at = feed_is_read(&reader->feed) ? NULL : choices; at != NULL; at = at->next) {
         count++;
     }
     if (count > reader->feed.most_attributes) {

@@ -518,53 +518,6 @@ static void check_tag(struct feed *feed, uint64_t markup) {
     }
 }
 
-/* Whether bars at this place are not between choices that are compared. */
-static bool has_other_bars(const struct feed *feed, uint64_t markup) {
-    static const char *const kinds[] = {"<!--", "<?", of_element, "<!NOTATION"};
-    for (size_t kind = 0; kind < sizeof kinds / sizeof *kinds; kind++) {
-        if (is_at(feed, markup, kinds[kind])) {
-            return true;
-        }
-    }
-    return feed->rest_at > 0 && markup == feed->rest_at; /* the rest of a declaration of an element */
-}
-
-/* Counts the bar at the offset if it is between choices. What is known of the text may be more than the declaration that libxml2 reads. */
-static void count_bar(struct feed *feed, uint64_t offset) {
-    struct choice_scan *choices = &feed->choices;
-    char byte = feed_byte(feed, offset);
-    if (choices->quote != '\0') {
-        choices->quote = byte == choices->quote ? '\0' : choices->quote;
-    } else if (byte == '"' || byte == '\'') {
-        choices->quote = byte;
-    } else if (byte == ')' || byte == '>') {
-        choices->bars = 0;
-        choices->is_outside |= byte == '>';
-    } else if (choices->is_outside) {
-        choices->is_outside = byte != 'A' || feed_byte(feed, offset - 1) != '!'; /* of `<!ATTLIST` */
-    } else {
-        choices->bars += byte == '|';
-    }
-}
-
-/* Refuses a declaration with too many choices, before all of it has come. */
-static void check_choices(struct feed *feed, uint64_t markup) {
-    struct choice_scan *choices = &feed->choices;
-    uint64_t given = feed->begin + feed->given;
-    if (feed->parser->instate != XML_PARSER_DTD || has_other_bars(feed, markup)) {
-        return;
-    }
-    if (choices->begin != feed->next) {
-        *choices = (struct choice_scan){.begin = feed->next, .next = feed->next};
-    }
-    for (; choices->next < given && choices->bars < feed->most_attributes; choices->next++) {
-        count_bar(feed, choices->next);
-    }
-    if (choices->bars >= feed->most_attributes) {
-        feed_refuse(feed, feed_place(feed, markup), too_many_choices, feed->most_attributes, "--max-attributes");
-    }
-}
-
 /* How many bytes libxml2 holds of the document's text. */
 static size_t held_by_parser(const struct feed *feed) {
     const xmlParserInput *input = feed->parser == NULL ? NULL : feed->parser->inputTab[0];
@@ -607,7 +560,6 @@ static void check(struct feed *feed) {
     section_look(&feed->section, markup, (struct span){feed->text.data, feed->given}, feed->begin);
     if (!feed->section.is_continued) {
         check_tag(feed, markup);
-        check_choices(feed, markup);
         look_for_runs(feed, markup);
     }
     check_length(feed, markup);
@@ -697,7 +649,6 @@ static struct span not_given(const struct feed *feed) {
 static void pass(struct feed *feed, size_t length) {
     feed->given += length;
     feed->scan.next = feed->begin + feed->given;
-    feed->choices.next = feed->scan.next;
     section_pass(&feed->section, feed->scan.next);
     tell_doubt(feed);
 }
@@ -865,7 +816,6 @@ void feed_move_to_rest(struct feed *feed) {
     if (feed->parting > 0 && feed_is_read(feed) && feed_offset(feed) > feed->parted_at) {
         feed->skew -= feed->parting;
         feed->parting = 0;
-        feed->rest_at = feed->parted_at;
         feed_move(feed, feed->parted_at);
     }
 }
@@ -970,10 +920,51 @@ static size_t give_wide(struct feed *feed, char *bytes, size_t most) {
     return end;
 }
 
+/* Passes over choices, as long as what is kept of the document is not too much. */
+static void pass_choices(struct feed *feed, struct choice_scan *choices) {
+    size_t length = 0;
+    do {
+        length = choices_leave_out(choices, not_given(feed));
+        pass(feed, length);
+        shortening_pass_choices(&feed->shortening, feed_markup(feed), feed->begin + feed->given);
+        feed_check_memory(feed, feed->place);
+    } while (length > 0 && read_for(feed, 1) && feed->fault->kind == FAULT_NONE);
+}
+
+/* Leaves out the choices that come next if libxml2 has enough of a list, and reads so many bytes that come behind them. Returns how many bytes it gets, which
+ * are the rest of a character, and what is in the place of the others. */
+static size_t leave_choices(struct feed *feed, char *bytes, size_t most) {
+    struct choice_scan *choices = &feed->models.choices;
+    if (!models_have_choices(&feed->models) || !is_in_subset(feed) || !feed_is_read(feed) || most < 2 * IN_PLACE_BYTES) {
+        return 0;
+    }
+    size_t count = whole_characters(not_given(feed), 0).length;
+    write_bytes(feed, bytes, count);
+    uint64_t before = feed->begin + feed->given;
+    struct span given = feed_text(feed, before - choices->given, choices->given);
+    if (!choices_begin(choices, given)) {
+        return count;
+    }
+    pass_choices(feed, choices);
+    const char *in_place = choices_close(choices);
+    memcpy(bytes + count, in_place, strlen(in_place));
+    feed->skew += feed->begin + feed->given - before - strlen(in_place);
+    feed->shortened(feed->context);
+    (void)read_for(feed, most);
+    return count + strlen(in_place);
+}
+
+/* How many bytes libxml2 may get at once, of which it asks for `most`. */
+static size_t most_at_once(const struct feed *feed, size_t most) {
+    size_t enough = is_in_subset(feed) ? choices_most(&feed->models.choices, not_given(feed), most) : most;
+    return shortening_most(&feed->shortening, feed->begin + feed->given, enough);
+}
+
 /* Gives at most so many bytes to libxml2, with less of long markup and more of long sections. Returns how many they are. */
 static size_t give(struct feed *feed, char *bytes, size_t most) {
-    most = shortening_most(&feed->shortening, feed->begin + feed->given, most);
-    size_t count = give_wide(feed, bytes, most);
+    size_t count = leave_choices(feed, bytes, most);
+    most = most_at_once(feed, most);
+    count += give_wide(feed, bytes + count, most - count);
     count += give_parted(feed, bytes + count, most - count);
     size_t cut = shortening_cut(feed, most - count);
     while (cut != SIZE_MAX && feed->fault->kind == FAULT_NONE) {

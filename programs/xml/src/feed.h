@@ -1,9 +1,9 @@
 /* Gives a document's text to libxml2 as it reads, and knows the place of each offset in the text.
  *
  * The text is what `decoding.h` makes of the document, so libxml2 sees UTF-8 with a line feed for each line end, whatever the document's encoding. In XML 1.1
- * it sees marks in the place of the references that `controls.h` finds. `models.h` says what it sees of content models, `sections.h` of long comments and the
- * like, `shortening.h` of long names and values, `long_references.h` of long references, `inclusions.h` of long entities,
- * `wide_tags.h` of many attributes. */
+ * it sees marks in the place of the references that `controls.h` finds. `models.h` says what it sees of content models, `choices.h` of the choices of
+ * attributes, `sections.h` of long comments and the like, `shortening.h` of long names and values, `long_references.h` of long references, `inclusions.h` of
+ * long entities, `wide_tags.h` of many attributes. */
 #ifndef FEED_H
 #define FEED_H
 
@@ -30,15 +30,6 @@ struct tag_scan {
     bool has_ended;
 };
 
-/* The declarations that are being read: how many choices are in the last bracket of one of attributes. They are counted while the text comes. */
-struct choice_scan {
-    uint64_t begin;  /* where the counting began */
-    uint64_t next;   /* the offset from which on bars are not counted */
-    size_t bars;     /* how many there are before that, one fewer than choices */
-    char quote;      /* of the literal that is being read; 0: none */
-    bool is_outside; /* behind the end of a declaration, and before another one of attributes */
-};
-
 struct feed {
     const struct byte_source *source;
     struct fault *fault;
@@ -57,7 +48,6 @@ struct feed {
     uint64_t away_at;
     uint64_t markup;    /* the offset after the blanks at `next`, as far as they are known */
     uint64_t settled;   /* the last offset up to which references that gave nothing were passed */
-    struct choice_scan choices;
     uint64_t next;      /* the offset of the markup or the text that is being read */
     struct tag_scan scan;
     struct control_scan controls; /* in a document of XML 1.1 */
@@ -65,7 +55,6 @@ struct feed {
     struct model_scan models;
     uint64_t parted_at; /* the offset at which a long model was parted last; 0: none was */
     size_t parting;     /* how many bytes it got there in addition, if it has not read the part before; else 0 */
-    uint64_t rest_at;   /* the offset of the rest of the last one of which it has read that */
     struct section section;
     struct shortening shortening;
     struct wide_tag wide;
@@ -79,7 +68,7 @@ struct feed {
     char long_mark[MARK_BYTES]; /* .. but its place and its first bytes */
     size_t most;        /* the bytes that may be held of the document */
     size_t most_depth;  /* how many elements may be open, and entities in one another */
-    size_t most_attributes; /* that a tag may have, with declarations; the same for the choices of a declaration: libxml2 compares them in pairs */
+    size_t most_attributes; /* that a tag may have, with declarations; the same for the choices of a list in an entity: libxml2 compares them in pairs */
     size_t defaults;    /* the bytes that are kept of namespaces by default */
     size_t kept;        /* the bytes that the receiver keeps, when it was asked last */
     void (*keep)(void *context);        /* is called before text that was read is forgotten */

@@ -28,7 +28,6 @@ static void look_again(struct feed *feed) {
     feed->markup = 0;
     feed->section = (struct section){0};
     feed->scan = (struct tag_scan){0};
-    feed->choices.begin = UINT64_MAX;
     feed->controls.markup = (struct markup_scan){.is_content = !is_in_subset(feed)};
     feed->controls.is_long = false;
     feed->controls.behind = 0;

@@ -6,7 +6,7 @@
 static const struct {
     char text[LONGEST_BEGINNING + 1];
     enum model_part part;
-} beginnings[] = {{"<!--", MODEL_COMMENT}, {"<?", MODEL_INSTRUCTION}, {"<!ELEMENT", MODEL_INSIDE}, {"<![", MODEL_END}};
+} beginnings[] = {{"<!--", MODEL_COMMENT}, {"<?", MODEL_INSTRUCTION}, {"<!ELEMENT", MODEL_INSIDE}, {"<!ATTLIST", MODEL_ATTRIBUTES}, {"<![", MODEL_END}};
 
 static bool is_blank(char byte) {
     return byte == ' ' || byte == '\t' || byte == '\n' || byte == '\r';
@@ -173,6 +173,9 @@ static char take(struct model_scan *scan, char byte) {
     case MODEL_REFERRING:
         scan->part = byte == '>' ? MODEL_OUTSIDE : MODEL_REFERRING;
         break;
+    case MODEL_ATTRIBUTES:
+        scan->part = choices_take(&scan->choices, byte) ? MODEL_ATTRIBUTES : MODEL_OUTSIDE;
+        break;
     case MODEL_END:
         break;
     }
@@ -188,8 +191,8 @@ static bool is_one_of(char byte, const char *bytes) {
 static size_t next(const struct model_scan *scan, struct span text, size_t at) {
     static const char of_parts[][4] = {[MODEL_OUTSIDE] = "<\"'",    [MODEL_LITERAL] = "\"'\"", [MODEL_COMMENT] = "---",
                                        [MODEL_INSTRUCTION] = "???", [MODEL_INSIDE] = "()>",    [MODEL_REFERRING] = ">>>"};
-    bool is_each = scan->part == MODEL_BEGINNING || scan->count > 0 || scan->depth >= FLAT_DEPTH;
-    const char *bytes = of_parts[scan->part];
+    bool is_each = scan->part == MODEL_BEGINNING || scan->part == MODEL_ATTRIBUTES || scan->count > 0 || scan->depth >= FLAT_DEPTH;
+    const char *bytes = is_each ? "" : of_parts[scan->part];
     const char *also = scan->part == MODEL_INSIDE ? "|,#" : bytes;
     while (at < text.length && !is_each && !is_one_of(text.data[at], bytes) && !is_one_of(text.data[at], also)) {
         at++;
@@ -262,6 +265,11 @@ static bool refers(const char *text, size_t length) {
     return memchr(text, '%', end == NULL ? length : (size_t)(end - text)) != NULL;
 }
 
+/* Whether choices can be left out behind the place: libxml2 has enough of them, and the last one is whole. */
+static bool may_leave_out(const struct model_scan *scan, const char *text, size_t length, size_t at) {
+    return models_have_choices(scan) && (at == length || ((unsigned char)text[at] & 0xC0) != 0x80);
+}
+
 bool make_declarations_shallow(char *text, size_t length, size_t most) {
     struct model_scan scan = {.most = most};
     for (size_t at = 0; at < length && scan.part != MODEL_END; at++) {
@@ -269,6 +277,9 @@ bool make_declarations_shallow(char *text, size_t length, size_t most) {
         text[at] = take(&scan, text[at]);
         bool is_begun = scan.part == MODEL_INSIDE && !was_inside;
         scan.part = is_begun && refers(text + at, length - at) ? MODEL_REFERRING : scan.part;
+        if (may_leave_out(&scan, text, length, at + 1)) {
+            at += choices_blank_out(&scan.choices, text, length, at + 1);
+        }
     }
     bool is_good = !scan.separators.failed;
     bytes_free(&scan.separators);

@@ -6,13 +6,14 @@
 #define MODELS_H
 
 #include "bytes.h"
+#include "choices.h"
 
 #include <stdint.h>
 
 enum {
     FLAT_DEPTH = 16,       /* the last bracket that libxml2 gets */
     DEEP_BRACKET = '\x01', /* libxml2 gets this for a bracket above the limit, where a name or a bracket may be. No document has it */
-    LONGEST_BEGINNING = 9, /* `<!ELEMENT` */
+    LONGEST_BEGINNING = 9, /* `<!ELEMENT` or `<!ATTLIST` */
     PARTING_BYTES = 96     /* more than libxml2 gets where a model is parted */
 };
 
@@ -25,6 +26,7 @@ enum model_part {
     MODEL_INSTRUCTION,
     MODEL_INSIDE,    /* the declaration of an element */
     MODEL_REFERRING, /* one that refers to a parameter entity: it is not changed */
+    MODEL_ATTRIBUTES, /* the declaration of attributes */
     MODEL_END        /* nothing more is changed: the root or a section has begun, or libxml2 finds a fault here */
 };
 
@@ -39,6 +41,7 @@ struct model_scan {
     bool is_mixed;           /* the model has `#PCDATA` */
     bool is_after;           /* a name or a closed bracket was last, and no separator. This and the next are known from FLAT_DEPTH on */
     bool is_closed;          /* such a bracket is directly before, and libxml2 does not get it */
+    struct choice_scan choices; /* in the declaration of attributes */
     struct bytes separators; /* those of the open brackets, the outermost first; 0: none yet */
 };
 
@@ -55,7 +58,13 @@ size_t model_parting(const struct model_scan *scan, struct span text);
  * Returns the length. */
 size_t part_model(const struct model_scan *scan, char text[PARTING_BYTES]);
 
-/* Makes the models shallow in the text of a parameter entity or an external DTD, up to the first conditional section. False: out of memory. */
+/* Whether libxml2 reads a list of choices of which it has enough (choices.h). */
+static inline bool models_have_choices(const struct model_scan *scan) {
+    return scan->part == MODEL_ATTRIBUTES && choices_are_enough(&scan->choices);
+}
+
+/* Makes the models shallow in the text of a parameter entity or an external DTD, up to the first conditional section, and leaves out choices. False: out of
+ * memory. */
 bool make_declarations_shallow(char *text, size_t length, size_t most);
 
 #endif

@@ -278,6 +278,13 @@ static void look_outside(struct run_scan *scan, char byte) {
     }
 }
 
+void runs_begin_list(struct run_scan *scan, uint64_t offset) {
+    runs_restart(scan, offset);
+    scan->part = PART_DECLARATION;
+    scan->words = WORDS_OF_LIST;
+    scan->is_list = true;
+}
+
 void runs_begin(struct run_scan *scan, uint64_t offset, struct span text, bool is_declared) {
     bool is_declaration = span_begins(text, "<!") || span_begins(text, "<?");
     runs_restart(scan, offset);
@@ -291,9 +298,7 @@ void runs_begin(struct run_scan *scan, uint64_t offset, struct span text, bool i
         scan->part = PART_TAG;
         scan->looked += span_begins(text, "</") ? 2 : 1;
     } else if (is_declared && (is_of_name(text) || is_one_of(text.data[0], "|,"))) {
-        scan->part = PART_DECLARATION;
-        scan->words = WORDS_OF_LIST;
-        scan->is_list = true;
+        runs_begin_list(scan, offset);
     }
 }
 

@@ -66,6 +66,9 @@ void runs_restart(struct run_scan *scan, uint64_t offset);
  * of attributes, from the name of one on, or of a content model, from a separator on. */
 void runs_begin(struct run_scan *scan, uint64_t offset, struct span text, bool is_declared);
 
+/* Begins to look at the offset in a declaration of attributes, outside of literals. */
+void runs_begin_list(struct run_scan *scan, uint64_t offset);
+
 /* Looks at the text, which begins at `looked`, up to where a run ends. Returns how many bytes it looked at. */
 size_t runs_look(struct run_scan *scan, struct span text);
 

@@ -108,6 +108,12 @@ void shortening_pass_attribute(struct shortening *shortening, size_t length) {
     shortening->scan.looked += length;
 }
 
+void shortening_pass_choices(struct shortening *shortening, uint64_t markup, uint64_t offset) {
+    runs_begin_list(&shortening->scan, offset);
+    shortening->markup = markup;
+    bytes_clear(&shortening->text);
+}
+
 size_t shortening_most(const struct shortening *shortening, uint64_t offset, size_t most) {
     uint64_t cut = shortening->scan.run + LONGEST_NAME;
     bool is_at_end = shortening->scan.kind == RUN_NAME && cut + 2 * IN_PLACE_BYTES >= offset + most && cut < offset + most + 2 * IN_PLACE_BYTES;

@@ -62,6 +62,9 @@ uint64_t shortening_behind(const struct shortening *shortening, uint64_t markup)
 /* Leaves out blanks from the offset on, up to which libxml2 has read nothing but blanks. */
 void shortening_begin_blanks(struct shortening *shortening, uint64_t offset);
 
+/* Goes on at the offset in a declaration of attributes, outside of literals: choices of this markup were left out before. */
+void shortening_pass_choices(struct shortening *shortening, uint64_t markup, uint64_t offset);
+
 /* How many bytes libxml2 may get at once, of which it asks for `most`, so that the place where a name is cut is well within those that it gets then or next. */
 size_t shortening_most(const struct shortening *shortening, uint64_t offset, size_t most);
 

@@ -452,9 +452,8 @@ class Declared(Converted):
         choices = "|".join(f"n{number}" for number in range(100_000))
         blanks = "\n" * 4_000_000
         begun = processor_seconds()
-        for text in (f"<!DOCTYPE a [<!ATTLIST a x ({choices}) #IMPLIED>]><a/>", f"<!DOCTYPE a [<!ENTITY % p '<!ATTLIST a x ({choices}) #IMPLIED>'>%p;]><a/>"):
-            self.assertEqual(self.fault(text)[2], "over a limit of this program: a declaration of attributes has more than 10,000 choices (--max-attributes)")
-        for text in (f"<a/>{blanks}", f"<!DOCTYPE a [{blanks}]><a/>", f"<!-- -->{blanks}<a/>", f"<!DOCTYPE a [<!ELEMENT a ({choices})*>]><a/>",
+        for text in (f"<!DOCTYPE a [<!ATTLIST a x ({choices}) #IMPLIED>]><a/>", f"<!DOCTYPE a [<!ENTITY % p '<!ATTLIST a x ({choices}) #IMPLIED>'>%p;]><a/>",
+                     f"<a/>{blanks}", f"<!DOCTYPE a [{blanks}]><a/>", f"<!-- -->{blanks}<a/>", f"<!DOCTYPE a [<!ELEMENT a ({choices})*>]><a/>",
                      f"<!DOCTYPE a [<!ENTITY % p '<!ELEMENT a (#PCDATA|{choices})*>'>%p;]><a/>"):
             self.assertEqual(self.pyx(text), b"(a\n)a\n")
         self.assertLess(processor_seconds() - begun, 6)

@@ -280,7 +280,7 @@ class Lines(InFolder):
             "d.xml:4:1: hint: attribute p:c of <a> is wrong (\"1\"); expected \"\"\n", 1))
 
     def test_wide_declarations(self):
-        """The choices and the defaults that a DTD declares have the same limit, or a lower one below the usual one."""
+        """The defaults that a DTD declares have the same limit, or a lower one below the usual one; choices have it in entities, where they are not left out."""
         self.write("t.rnc", "start = any\nany = element * { attribute * { text }*, any* }")
         defaults = " ".join(f"x{number} CDATA 'v'" for number in range(1_001))
         spaces = " ".join(f"xmlns:x{number} CDATA 'v'" for number in range(501))
@@ -288,8 +288,6 @@ class Lines(InFolder):
         attributes = " ".join(f'a{number}=""' for number in range(10_001))
         above = " above 10,000"
         for declared, what, option in (
-                (f"<!ATTLIST a x ({choices}) 'n5'>", "a declaration of attributes has more than 10,000 choices", ""),
-                (f"<!ENTITY % p '<!ATTLIST a x ({choices}) #IMPLIED>'>%p;", "a declaration of attributes has more than 10,000 choices", ""),
                 (f"<!ENTITY e '<b {attributes}/>'>", "a tag has more than 10,000 attributes and declarations", ""),
                 (f"<!ATTLIST a {defaults}>", "more than 1,000 declarations of attributes with defaults for one element", above),
                 (f"<!ATTLIST a {spaces}><!ATTLIST b {spaces}>", "more than 1,000 declarations of namespaces by default", above)):
@@ -306,12 +304,14 @@ class Lines(InFolder):
             self.assert_same(self.judge("t.rnc", "d.xml"), ("", 0), entity[:20])
         self.write("d.xml", f"<!DOCTYPE a [<!NOTATION n SYSTEM '{bars}'{' ' * 9_000}>]><a/>")
         self.assertEqual(self.judge("t.rnc", "d.xml"), ("", 0))
-        for front in ("&#39;", '<!-- " -->', '<?a "?>', '<!ENTITY e "&#39;">', '<![IGNORE[ " ]]>', '<!ATTLIST a y CDATA "&#39;" z CDATA "'):
-            self.write("d.xml", f"<!DOCTYPE a [<!ENTITY % p '{front}<!ATTLIST a x ({choices}) #IMPLIED>'>%p;]><a/>")
-            self.assertIn("more than 10,000 choices", self.judge("t.rnc", "d.xml")[0], front)
-        self.write("d.xml", "<!DOCTYPE a [\n<!ATTLIST a x (p|q) 'p'>]><a/>")
+        for front, is_left_out in (("&#39;", False), ('<!-- " -->', True), ('<?a "?>', True), ('<!ENTITY e "&#39;">', True), ('<![IGNORE[ " ]]>', False),
+                                   ('<!ATTLIST a y CDATA "&#39;" z CDATA "', False), ('<!ATTLIST a y CDATA "50 &#37;">', True)):
+            self.write("d.xml", f"<!DOCTYPE a [<!ENTITY % p '{front}<!ATTLIST a x ({choices}) #IMPLIED>'>\n%p;]><a/>")
+            wanted = "" if is_left_out else "d.xml:2:1: over a limit of this program: a declaration of attributes has more than 10,000 choices (--max-attributes)\n"
+            self.assertEqual(self.judge("t.rnc", "d.xml")[0], wanted, front)
+        self.write("d.xml", "<!DOCTYPE a [<!ENTITY % p \"<!ATTLIST a x (p|q) 'p'>\">\n<!ATTLIST a x (p|q) 'p'>\n%p;]><a/>")
         self.assertEqual(self.judge("--max-attributes", "1", "t.rnc", "d.xml"), (
-            "d.xml:2:1: over a limit of this program: a declaration of attributes has more than 1 choices (--max-attributes)\n", 2))
+            "d.xml:3:1: over a limit of this program: a declaration of attributes has more than 1 choices (--max-attributes)\n", 2))
         self.assertEqual(self.judge("--max-attributes", "2", "t.rnc", "d.xml"), ("", 0))
 
     def test_choices_of_declarations_behind_each_other(self):
@@ -320,10 +320,11 @@ class Lines(InFolder):
         few, many = ("|".join(f"n{number}" for number in range(count)) for count in (40, 400))
         for declared, status in ((f"<!ATTLIST a> <!ELEMENT a ({many})>", 0), (f"<!ATTLIST a ~ ({few}) #IMPLIED><!ELEMENT a ({many})*>", 0),
                                  (f"<!ATTLIST a ~ ({few}) 'n1'><!ENTITY ~ '{many}'>", 0), (f"<!ATTLIST a ~ ({few}) #IMPLIED b~ NOTATION ({few}) #IMPLIED>", 0),
-                                 (f"<!-- ' --><!ATTLIST a> <!ATTLIST a ~ CDATA '{few}' b~ ({many}) #IMPLIED>", 2)):
+                                 (f"<!-- ' --><!ATTLIST a> <!ATTLIST a ~ CDATA '{few}' b~ (&#37;many;) #IMPLIED>", 2)):
             text = "".join(declared.replace("~", f"x{number}") for number in range(100))
-            self.write("d.xml", f"<!DOCTYPE a [{text}]><a/>")
-            self.assertEqual(self.judge("--max-attributes", "50", "t.rnc", "d.xml")[1], status, declared[:50])
+            self.write("d.dtd", f"<!ENTITY % many '{many}'>{text.replace('&#37;', '%')}")
+            self.write("d.xml", f"<!DOCTYPE a [{text}]><a/>" if status == 0 else "<!DOCTYPE a SYSTEM 'd.dtd'><a/>")
+            self.assertEqual(self.judge("--max-attributes", "50", "--dtd", "t.rnc", "d.xml")[1], status, declared[:50])
 
     def test_many_defaults(self):
         """What defaults give beyond the document's length is limited. The option raises that by its square."""
