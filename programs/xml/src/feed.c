@@ -752,8 +752,8 @@ static enum byte_kind kind_of_byte(char byte) {
     return is_of_name ? BYTE_OF_NAME : is_blank(byte) ? BYTE_BLANK : BYTE_OTHER;
 }
 
-/* A place in the last long run of blanks, or of bytes of names, if it ends near the place; the place itself if there is none. Behind such a run libxml2 looks at
- * several bytes, as those of `SYSTEM`, without seeing to it that it has them. */
+/* A place in the last long run of blanks, or of bytes of names, if it ends near the place; the place itself if there is none. Behind such a run libxml2 looks
+ * at several bytes, as those of `SYSTEM`, without seeing to it that it has them. */
 static size_t in_long_run(struct span text, size_t place) {
     size_t first = place > NEAR_BYTES + LONG_RUN ? place - NEAR_BYTES - LONG_RUN : 0;
     enum byte_kind kind = BYTE_OTHER;

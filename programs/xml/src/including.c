@@ -63,6 +63,9 @@ void feed_include(struct feed *feed, const void *entity, struct span text, struc
     struct included_text included = {.rest = text, .own = *own, .is_parameter = is_parameter};
     *own = (struct bytes)NO_BYTES;
     take_back(feed);
+    if (feed->begin + feed->given != begin) { /* libxml2 had less of what is behind the reference: nothing may make that so */
+        fault_set(feed->fault, FAULT_OUTSIDE, place, "over a limit of this program: shortened markup behind a long entity");
+    }
     keep_later(feed, begin, &included);
     feed_move(feed, begin);
     look_again(feed);

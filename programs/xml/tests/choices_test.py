@@ -131,8 +131,8 @@ class Variant(InFolder):
         many = "a|" * CUT
         begun = f"<!ATTLIST r a ({many}"
         for text in (f"<!-- {begun} -->", f"<?p {begun}?>", f"<!ENTITY e '{begun}'>", f"<!ENTITY e \"{begun}'\">", f"<!ATTLIST r a CDATA '({many}'>",
-                     f"<!ATTLIST r a CDATA \"'({many}\">", f"<!ATTLIST r a (b) 'NOTATION ({many}'>", f"<!ELEMENT r ({many}b)>", f"<!NOTATION n SYSTEM '{begun}'>",
-                     f"<!ENTITY % p '{begun}'>", f"<!ATTLIST r a (b) #IMPLIED><!ELEMENT r ({many}b)*>"):
+                     f"<!ATTLIST r a CDATA \"'({many}\">", f"<!ATTLIST r a (b) 'NOTATION ({many}'>", f"<!ELEMENT r ({many}b)>",
+                     f"<!NOTATION n SYSTEM '{begun}'>", f"<!ENTITY % p '{begun}'>", f"<!ATTLIST r a (b) #IMPLIED><!ELEMENT r ({many}b)*>"):
             for end in ("", "<!ATTLIST r b (c|) #IMPLIED>"):
                 self.assertEqual(self.same(f"<!DOCTYPE r [{text}{end}]><r/>", text[:30]), end == "", text[:30])
 
