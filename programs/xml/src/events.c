@@ -1380,7 +1380,6 @@ static const xmlChar *whole_written(struct reader *reader, const xmlChar *writte
 static void take_attribute(void *context, const xmlChar *element, const xmlChar *name, int type, int kind, const xmlChar *value, xmlEnumerationPtr choices) {
     struct reader *reader = context;
     (void)kind;
-    reader->feed.shortening.scan.has_types |= type != XML_ATTRIBUTE_CDATA;
     declarations_attribute(&reader->declarations, whole_written(reader, element), whole_written(reader, name), value, type != XML_ATTRIBUTE_CDATA);
     check_choices(reader, choices);
     reader->is_unusual = true;

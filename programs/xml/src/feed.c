@@ -13,6 +13,7 @@ enum {
     LONG_BYTES = 1048576,     /* the beginning of longer markup is not kept */
     MOST_CONSUMED = 1 << 30, /* the greatest offset that libxml2 has */
     SHORT_BYTES = 4096,     /* of a reference that is passed over */
+    REFERENCE_BYTES = 1048576, /* of one that is left out */
     COUNTED_BYTES = 128,    /* whose line feeds are counted together: fewer than 256 */
     FORGOTTEN_BYTES = 65536, /* the text that was read is forgotten in pieces of this length */
     LONG_RUN = 32,          /* bytes of blanks, or of a name. Several of them are as long as what libxml2 has at the beginning of a declaration: 250 */
@@ -655,8 +656,8 @@ static void pass(struct feed *feed, size_t length) {
 
 /* Lets long markup be shortened by the rules of the document's version. In the text of an entity marks are in the place of references already. */
 static void set_version(struct feed *feed) {
-    feed->shortening.scan.is_1_1 = feed->decoding.is_1_1;
-    feed->shortening.has_marks = feed->decoding.is_1_1 && feed->inclusions.count == 0;
+    feed->shortening.scan.is_1_1 = feed->decoding.is_1_1 && feed->inclusions.count == 0;
+    feed->shortening.has_marks = feed->shortening.scan.is_1_1;
 }
 
 /* Leaves out a reference by itself, to a character or in the literal of an entity. Returns its length; 0: it stays. */
@@ -670,13 +671,21 @@ static size_t leave_character(struct feed *feed, struct span next) {
     return length;
 }
 
+/* Whether the reference at the start of the text ends within so many bytes. */
+static bool has_reference_end(struct span text, size_t most) {
+    return memchr(text.data, ';', text.length < most ? text.length : most) != NULL;
+}
+
 /* Leaves out the reference at which libxml2 is in a value. Returns its length; 0: there is none, or it stays. */
 static size_t leave_reference(struct feed *feed) {
     if (!shortening_may_refer(&feed->shortening, not_given(feed)) || !read_for(feed, SHORT_BYTES)) {
         return 0;
     }
+    if (!has_reference_end(not_given(feed), SHORT_BYTES) && !read_for(feed, REFERENCE_BYTES)) {
+        return 0;
+    }
     struct span next = not_given(feed);
-    next.length = next.length < SHORT_BYTES ? next.length : SHORT_BYTES;
+    next.length = next.length < REFERENCE_BYTES ? next.length : REFERENCE_BYTES;
     size_t length = leave_character(feed, next);
     if (length > 0 || feed->shortening.scan.kind != RUN_VALUE) {
         return length;
@@ -856,7 +865,7 @@ static size_t attribute_end(const struct feed *feed, size_t most) {
 
 /* The next attribute. More of the text is read for it. */
 static struct attribute_text next_attribute(struct feed *feed) {
-    bool is_1_1 = feed->decoding.is_1_1;
+    bool is_1_1 = feed->shortening.scan.is_1_1;
     struct attribute_text found = attribute_at(not_given(feed), is_1_1);
     size_t wanted = PIECE_BYTES;
     while (found.is_cut && wanted <= MOST_AHEAD && may_have_more(feed) && read_for(feed, wanted)) {

@@ -40,8 +40,6 @@ static bool is_in(enum run_kind kind, char byte) {
             return is_blank_byte(byte) || is_itself(byte, "#");
         case RUN_VALUE:
             return is_blank_byte(byte) || is_itself(byte, "<&");
-        case RUN_WORD:
-            return is_itself(byte, "<&");
         case RUN_ENTITY:
             return is_blank_byte(byte) || is_itself(byte, "%&");
         case RUN_NONE:
@@ -71,7 +69,6 @@ static bool goes_on_with(const struct run_scan *scan, uint32_t code) {
             return is_name_character(code, false);
         case RUN_SYSTEM:
         case RUN_VALUE:
-        case RUN_WORD:
         case RUN_ENTITY:
             return is_plain(scan, code);
         case RUN_NONE:
@@ -135,18 +132,10 @@ static void begin_run(struct run_scan *scan, enum run_kind kind, uint64_t offset
     scan->run = offset;
 }
 
-/* Whether the value that begins in a tag is a namespace. */
-static bool is_namespace(const struct run_scan *scan) {
-    return is_word(scan, "xmlns") || (scan->word_length > 5 && memcmp(scan->word, "xmlns:", 6) == 0);
-}
-
 /* The kind of runs in the literal that begins. */
 static enum run_kind kind_of_literal(const struct run_scan *scan) {
-    if (scan->part == PART_TAG) {
-        return scan->has_types && is_namespace(scan) ? RUN_WORD : RUN_VALUE;
-    }
-    if (scan->is_list) {
-        return is_word(scan, "CDATA") || (scan->was_text && is_word(scan, "FIXED")) ? RUN_VALUE : RUN_WORD;
+    if (scan->part == PART_TAG || scan->is_list) {
+        return RUN_VALUE;
     }
     if (scan->words == 3 && is_word(scan, "PUBLIC")) {
         return scan->literals == 0 ? RUN_PUBLIC : RUN_SYSTEM;
@@ -172,7 +161,6 @@ static void begin_name(struct run_scan *scan) {
     if (!scan->is_joined) {
         scan->is_entity |= scan->words == 1 && is_word(scan, "ENTITY");
         scan->is_list |= scan->words == 1 && is_word(scan, "ATTLIST");
-        scan->was_text = is_word(scan, "CDATA");
         scan->words++;
         scan->word_length = 0;
     }
@@ -236,7 +224,7 @@ static void look_in_literal(struct run_scan *scan, char byte) {
 }
 
 void runs_restart(struct run_scan *scan, uint64_t offset) {
-    *scan = (struct run_scan){.looked = offset, .has_types = scan->has_types, .is_1_1 = scan->is_1_1};
+    *scan = (struct run_scan){.looked = offset, .is_1_1 = scan->is_1_1};
 }
 
 /* Looks at the byte between declarations, or at the beginning of one. */

@@ -14,7 +14,6 @@ enum run_kind {
     RUN_PUBLIC, /* of a public identifier */
     RUN_SYSTEM, /* of a system identifier */
     RUN_VALUE,  /* of the value of an attribute, or of one by default, but for references */
-    RUN_WORD,   /* the same without blanks */
     RUN_ENTITY  /* of the literal of an entity, but for references */
 };
 
@@ -43,12 +42,10 @@ struct run_scan {
     enum run_part part;
     enum run_reference reference;
     uint64_t behind;       /* where the reference in content ends that was read; 0: none was */
-    bool has_types;        /* values of attributes may have their blanks removed */
     bool is_1_1;           /* the document is XML 1.1 */
     bool is_joined;        /* a colon is directly before */
     bool is_entity;        /* this is the declaration of one */
-    bool is_list;          /* this is the declaration of attributes, .. */
-    bool was_text;         /* .. and the word before the last one is `CDATA` */
+    bool is_list;          /* this is the declaration of attributes */
     char quote;            /* of the literal that is being read; 0: none is */
     enum run_kind literal; /* the kind of its runs */
     bool has_fragment;     /* it is a system identifier, and has a `#` that is in no run */

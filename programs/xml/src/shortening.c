@@ -14,7 +14,7 @@ void shortening_free(struct shortening *shortening) {
 }
 
 static bool is_of_value(enum run_kind kind) {
-    return kind == RUN_VALUE || kind == RUN_WORD || kind == RUN_ENTITY;
+    return kind == RUN_VALUE || kind == RUN_ENTITY;
 }
 
 static bool is_of_identifier(enum run_kind kind) {
@@ -182,19 +182,12 @@ void shortening_leave_given(struct shortening *shortening, size_t length, struct
     shortening->scan.looked += length;
 }
 
-/* Whether the character of a reference, which is at the end of the text, may be in the run as it is. */
-static bool is_allowed(const struct shortening *shortening, size_t before) {
-    const struct bytes *text = &shortening->text;
-    bool is_blank = before < text->length && is_blank_byte(text->data[before]);
-    return !text->failed && !(is_blank && shortening->scan.kind == RUN_WORD);
-}
-
 size_t shortening_leave_reference(struct shortening *shortening, struct span text) {
     struct bytes *to = &shortening->text;
     size_t before = to->length;
     bool has_marks = shortening->has_marks;
     size_t length = shortening->scan.kind == RUN_ENTITY ? entity_text_kept(text, has_marks, to) : entity_text_character(text, has_marks, to);
-    if (length == 0 || !is_allowed(shortening, before)) {
+    if (length == 0 || to->failed) {
         to->length = to->failed ? to->length : before;
         return 0;
     }
