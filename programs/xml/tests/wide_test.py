@@ -80,10 +80,10 @@ class WideTags(InFolder):
         self.write("d.xml", document)
         out, reported, status = self.run_in(program, "--lines", "places", "d.xml")
         if status != 0:
-            return [], reported.splitlines()[-1].split(": ", 1)[1][:40], status
+            return [], reported.strip("\n").split("\n")[-1].split(": ", 1)[1][:40], status
         lines = [[]]
-        for line, place in zip(out.splitlines(), (self.folder / "places").read_text().splitlines()):
-            lines += [] if line[0] == "A" else [[]]
+        for line, place in zip(out.split("\n"), (self.folder / "places").read_text().split("\n")):
+            lines += [] if line.startswith("A") else [[]]
             lines[-1].append((line, place))
         return [sorted(line) for line in lines], reported, 0
 
