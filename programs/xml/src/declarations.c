@@ -244,11 +244,10 @@ static xmlEntityPtr entity_named(xmlParserCtxtPtr parser, const xmlChar *name) {
 
 xmlEntityPtr declarations_entity_of(struct declarations *declarations, struct span name) {
     struct bytes written = NO_BYTES;
-    bytes_add(&written, name.data, name.length);
-    const char *text = bytes_text(&written);
-    if (written.failed) {
+    if (!long_names_write(&declarations->feed->shortening.names, name, &written)) {
         declarations_out_of_memory(declarations);
     }
+    const char *text = bytes_text(&written);
     xmlEntityPtr entity = entity_named(declarations->feed->parser, (const xmlChar *)text);
     bytes_free(&written);
     return entity;

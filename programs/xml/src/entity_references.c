@@ -119,9 +119,11 @@ static xmlEntityPtr undeclared(struct declarations *declarations, const xmlChar 
 
 /* The entity of a reference in a value, also one that is not declared and gives nothing. NULL: there is none. */
 static xmlEntityPtr in_value(struct declarations *declarations, struct span name) {
+    const xmlParserCtxt *parser = declarations->feed->parser;
     xmlEntityPtr entity = declarations_entity_of(declarations, name);
     struct bytes written = NO_BYTES;
-    if (entity == NULL) {
+    bool are_all_read = parser->inSubset == 0 || parser->instate == XML_PARSER_ATTRIBUTE_VALUE; /* the declarations before the reference */
+    if (entity == NULL && are_all_read) {
         bytes_add(&written, name.data, name.length);
         entity = undeclared(declarations, (const xmlChar *)bytes_text(&written));
     }

@@ -202,6 +202,9 @@ static OUT_OF_LINE void take_any_text(struct reader *reader, const xmlChar *text
     if (length > 0) {
         hand_text(reader, position, (struct span){(const char *)text, length}, has_raw);
     }
+    if (!has_raw) {
+        feed_shrink(&reader->feed); /* libxml2 may not between references */
+    }
 }
 
 /* Finds the position of a piece of which a part is a mark, or of one. */
@@ -736,23 +739,12 @@ static void check_names(struct reader *reader, const struct start_event *start) 
     bytes_free(&words);
 }
 
-/* Writes a part of a name as libxml2 has it: with a number if it is long. */
+/* Writes a part of a name as libxml2 has it. */
 static const xmlChar *name_for_libxml2(struct reader *reader, struct span name, struct bytes *text) {
-    char number[NUMBER_BYTES + 1] = "";
-    struct bytes whole = NO_BYTES;
-    size_t kept = name.length > LONGEST_NAME ? long_name_kept(name) : name.length;
-    bytes_add(text, name.data, kept);
-    if (kept < name.length) {
-        bytes_add(&whole, name.data, name.length);
-        text->failed |= !long_names_put(&reader->feed.shortening.names, &whole, number);
-        bytes_add_text(text, number);
-    }
-    bytes_free(&whole);
-    const char *found = bytes_text(text);
-    if (text->failed) {
+    if (!long_names_write(&reader->feed.shortening.names, name, text)) {
         out_of_memory(reader);
     }
-    return (const xmlChar *)found;
+    return (const xmlChar *)bytes_text(text);
 }
 
 /* Whether the attribute that libxml2 has not got is declared with another type than CDATA. */
@@ -1703,7 +1695,8 @@ static void open_reader(struct reader *reader, const struct byte_source *source,
     reader->feed.shortened = take_shortened;
     reader->feed.included = use_inclusions;
     reader->feed.depth = &reader->start.depth;
-    reader->feed.expand = expand;
+    reader->feed.shortening.expand = expand;
+    reader->feed.shortening.context = reader;
     reader->names.long_names = &reader->feed.shortening.names;
     reader->feed.most_depth = sink->depth == 0 ? USUAL_DEPTH : sink->depth;
 #if LIBXML_VERSION < 20911

@@ -691,7 +691,7 @@ static size_t leave_reference(struct feed *feed) {
         return length;
     }
     struct bytes given = NO_BYTES;
-    length = feed->expand(feed->context, next, &given);
+    length = feed->shortening.expand(feed->context, next, &given);
     if (length > 0) {
         shortening_leave_given(&feed->shortening, length, (struct span){given.data, given.length});
     }
@@ -877,7 +877,7 @@ static struct attribute_text next_attribute(struct feed *feed) {
 
 /* Leaves out an attribute of a wide tag. False: it has to stay. */
 static bool leave_attribute(struct feed *feed, const struct attribute_text *attribute) {
-    const struct reference_reader reader = {feed->expand, feed->context, feed->shortening.has_marks};
+    const struct reference_reader reader = {feed->shortening.expand, feed->context, feed->shortening.has_marks};
     if (attribute->length == 0 || feed->fault->kind != FAULT_NONE || !wide_tag_add(&feed->wide, attribute, &reader)) {
         return false;
     }
@@ -1008,7 +1008,7 @@ int feed_read(void *context, char *bytes, int length) {
     size_t wanted = length > 0 ? (size_t)length : 0;
     feed->keep(feed->context);
     count_from_zero(feed);
-    if (!read_for(feed, wanted + (held_by_parser(feed) < LONGEST_HELD ? 0 : SHORT_BYTES))) {
+    if (!read_for(feed, wanted + (held_by_parser(feed) < LONGEST_HELD ? 0 : LONGEST_NAME + SHORT_BYTES))) {
         return -1;
     }
     take_fault(feed);

@@ -77,7 +77,6 @@ struct feed {
     uint64_t doubt_at;                  /* .. this offset; UINT64_MAX: there is none */
     void (*doubtful)(void *context, struct place place); /* is called after libxml2 got the first such code */
     void (*marked)(void *context);      /* is called after libxml2 got the first mark for a control character */
-    expand_reference *expand;           /* for references to entities of the document */
     void (*included)(void *context);    /* is called before libxml2 gets the text of an entity as if the document had it */
     void (*shortened)(void *context);   /* is called after libxml2 got less of a tag or a declaration than the document has */
     void *context;
@@ -162,8 +161,8 @@ static inline void feed_move_on(struct feed *feed, uint64_t next) {
     feed->next = next;
 }
 
-/* Lets libxml2 forget what it has read of the document, if it holds much: it does not between declarations of elements and attributes. The handler of such
- * a declaration may call this. */
+/* Lets libxml2 forget what it has read of the document, if it holds much: it does not between declarations of elements and attributes, and seldom between
+ * references. The handler of one of these may call this. */
 void feed_shrink(struct feed *feed);
 
 /* Moves on to the rest of a model that was parted, if the declaration that libxml2 has read is the part before. */

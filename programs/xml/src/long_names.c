@@ -139,3 +139,17 @@ struct span long_names_whole(const struct long_names *names, struct span name) {
     const struct long_name *one = found(names, name);
     return one == NULL ? name : text_of(one);
 }
+
+bool long_names_write(struct long_names *names, struct span name, struct bytes *to) {
+    char number[NUMBER_BYTES + 1] = "";
+    struct bytes whole = NO_BYTES;
+    size_t kept = long_names_have(names, name) ? name.length : long_name_kept(name);
+    bytes_add(to, name.data, kept);
+    if (kept < name.length) {
+        bytes_add(&whole, name.data, name.length);
+        to->failed |= !long_names_put(names, &whole, number);
+        bytes_add_text(to, number);
+    }
+    bytes_free(&whole);
+    return !to->failed;
+}

@@ -36,6 +36,9 @@ bool long_names_keep(struct long_names *names, struct bytes *text, struct span *
 /* How many bytes libxml2 gets of a long name: whole characters. */
 size_t long_name_kept(struct span name);
 
+/* Adds a name as libxml2 has it: with a number if it is long and has none. False: out of memory. */
+bool long_names_write(struct long_names *names, struct span name, struct bytes *to);
+
 /* Whether the name, which libxml2 has, is short, or is one of these. */
 bool long_names_have(const struct long_names *names, struct span name);
 

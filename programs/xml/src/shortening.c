@@ -201,23 +201,29 @@ static bool is_at_reference(const struct run_scan *scan, const struct offered *o
     return is_in_literal && scan->looked >= offered->offset && offered->next.data[scan->looked - offered->offset] == '&';
 }
 
-/* Looks at a reference as one of what may be left out, behind which a run begins. False: it is none. */
-static bool look_at_reference(struct shortening *shortening, struct span text) {
+/* Looks at a reference as one of what may be left out, behind which a run begins. False: it is none, or has a long name, and libxml2 is to get it. */
+static bool look_at_reference(struct shortening *shortening, struct span text, bool may_cut) {
     struct run_scan *scan = &shortening->scan;
     scan->kind = scan->literal;
     bytes_clear(&shortening->text);
     size_t length = shortening_leave_reference(shortening, text);
     bytes_clear(&shortening->text);
+    if (length == 0 && scan->kind == RUN_VALUE) {
+        length = shortening->expand(shortening->context, text, &shortening->text);
+        length = length > LONGEST_NAME && !may_cut ? 0 : length;
+        scan->looked += length;
+        bytes_free(&shortening->text);
+    }
     scan->run = scan->looked;
     return length > 0;
 }
 
-/* Looks at what comes next. Returns whether it is a reference that may be left out. */
-static bool look_at_next(struct shortening *shortening, const struct offered *offered) {
+/* Looks at what comes next, which may be left out at once. Returns whether it is a reference that may be left out. */
+static bool look_at_next(struct shortening *shortening, const struct offered *offered, bool may_cut) {
     const struct run_scan *scan = &shortening->scan;
     size_t at = (size_t)(scan->looked - offered->offset);
     bool is_reference = offered->held >= LONGEST_HELD && is_at_reference(scan, offered);
-    if (is_reference && look_at_reference(shortening, span_from(offered->known, at))) {
+    if (is_reference && look_at_reference(shortening, span_from(offered->known, at), may_cut)) {
         return true;
     }
     look(shortening, span_from(offered->next, at));
@@ -242,15 +248,16 @@ void shortening_look(struct shortening *shortening, const struct offered *offere
         }
     }
     while (scan->looked < end) {
-        look_at_next(shortening, offered);
+        look_at_next(shortening, offered, false);
     }
 }
 
 /* Looks at what comes next. Returns where it is cut; SIZE_MAX: it is not. */
 static size_t look_for_cut(struct shortening *shortening, const struct offered *offered) {
     uint64_t at = shortening->scan.looked;
-    if (look_at_next(shortening, offered)) {
-        return offered->offset >= shortening->scan.sure + KEPT_BYTES ? (size_t)(at - offered->offset) : SIZE_MAX;
+    bool may_cut = offered->offset >= shortening->scan.sure + KEPT_BYTES;
+    if (look_at_next(shortening, offered, may_cut)) {
+        return may_cut ? (size_t)(at - offered->offset) : SIZE_MAX;
     }
     return cut_of(shortening, offered);
 }

@@ -21,6 +21,9 @@ enum {
     IN_PLACE_BYTES = 64              /* more than libxml2 gets in the place of what is left out */
 };
 
+/* Adds what the reference at the start of the text, to an entity of the document, gives in a value. Returns its length; 0: it may not be there. */
+typedef size_t expand_reference(void *context, struct span text, struct bytes *to);
+
 /* What comes next of the markup that is read, of which libxml2 has got all before the offset. */
 struct offered {
     uint64_t markup;   /* where it begins */
@@ -40,6 +43,8 @@ struct shortening {
     struct left_out left;
     struct long_uris uris;
     struct bytes whole;  /* room for the values of a tag that are written again */
+    expand_reference *expand; /* with this .. */
+    void *context;            /* .. context */
     bool has_marks;      /* references to control characters become marks (controls.h) */
     bool failed;         /* memory ran out */
 };

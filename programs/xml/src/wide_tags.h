@@ -3,9 +3,7 @@
 #ifndef WIDE_TAGS_H
 #define WIDE_TAGS_H
 
-#include "bytes.h"
-
-#include <stdint.h>
+#include "shortening.h"
 
 #ifndef USUAL_WIDTH
 #define USUAL_WIDTH 1000 /* attributes that libxml2 gets of each tag */
@@ -43,9 +41,6 @@ struct attribute_text {
 
 /* In a document of XML 1.0 or 1.1. */
 struct attribute_text attribute_at(struct span text, bool is_1_1);
-
-/* Adds what the reference at the start of the text, to an entity, gives in a value. Returns its length; 0: it may not be there. */
-typedef size_t expand_reference(void *context, struct span text, struct bytes *to);
 
 /* How references in values are read. */
 struct reference_reader {

@@ -171,9 +171,20 @@ class Variant(InFolder):
         picture, model = ("A" * 76 + "&#10;") * 760, "|".join(f"n{at}" for at in range(15_000))
         inner = "(" * 20 + f"a,({model}),(a|b)" + ")" * 20
         for subset, tag in (("", f"<r a='{picture}'/>"), (f"<!ATTLIST r a CDATA '{picture}'>", "<r/>"), (f"<!ENTITY e '{picture}'>", "<r>&e;</r>"),
-                            (f"<!ELEMENT r ({model})>", "<r/>"), (f"<!ELEMENT r {inner}>", "<r/>"), (f"<!ATTLIST r {' CDATA #IMPLIED '.join(model.split('|'))} CDATA #IMPLIED>", "<r/>")):
+                            (f"<!ELEMENT r ({model})>", "<r/>"), (f"<!ELEMENT r {inner}>", "<r/>"),
+                            (f"<!ATTLIST r {' CDATA #IMPLIED '.join(model.split('|'))} CDATA #IMPLIED>", "<r/>")):
             document = f"<!DOCTYPE r [{subset}]>{tag}"
             self.assert_same(self.converted(self.tight, document), self.converted(self.whole, document), document[:40])
+
+    def test_it_holds_few_references(self):
+        """The same for references to entities alone, and for short tokens."""
+        long = "n" * 4_000
+        entities = f"<!ENTITY e 'ev'><!ENTITY \u00e9.-x 'y'><!ENTITY {long} 'w'>"
+        for text in ("&e;" * 20_000, "&\u00e9.-x;" * 9_000, f"&{long};" * 20, "a b\n " * 11_000):
+            for subset, tag in (("", f"<r a='{text}'/>"), ("<!ATTLIST r a NMTOKENS 'v'>", f"<r a='{text}' xmlns:p='u'/>"), (f"<!ATTLIST r a CDATA '{text}'>", "<r/>"),
+                                (f"<!ATTLIST r a NMTOKENS '{text}'>", "<r/>"), (f"<!ENTITY z '{text}'>", "<r>&z;</r>"), ("", f"<r>{text}</r>")):
+                document = f"<!DOCTYPE r [{entities}{subset}]>{tag}"
+                self.assert_same(self.converted(self.tight, document), self.converted(self.whole, document), (text[:10], subset[:20], tag[:10]))
 
     def test_control_characters(self):
         """XML 1.0 has those from U+007F on as they are. None is taken for a mark of XML 1.1, which has them by references alone."""
