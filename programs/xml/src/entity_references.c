@@ -357,6 +357,24 @@ static xmlEntityPtr include(struct declarations *declarations, xmlEntityPtr enti
     return nothing(declarations);
 }
 
+/* Includes the text of a tall entity in content, with the texts of others in it, if that is long. NULL: it is not, and the text is not kept. */
+static xmlEntityPtr include_tall(struct declarations *declarations, xmlEntityPtr entity) {
+    struct bytes text = NO_BYTES;
+    struct twin *twins = twins_of(declarations, entity);
+    bool is_open = is_included(&declarations->feed->inclusions, entity); /* it is in itself, and libxml2 finds that out */
+    bool may_be_long = twins != NULL && twins->written == NULL && feed_is_read(declarations->feed) && !is_open;
+    if (may_be_long) {
+        declarations->fills_content = true;
+        write_text(declarations, entity, false, &text);
+    }
+    bool is_included = text.length > LONGEST_ENTITY && !text.failed && declarations->feed->fault->kind == FAULT_NONE;
+    if (is_included) {
+        feed_include(declarations->feed, entity, (struct span){text.data, text.length}, &text);
+    }
+    bytes_free(&text);
+    return is_included ? nothing(declarations) : NULL;
+}
+
 /* What libxml2 gets for an entity with text. */
 static xmlEntityPtr given_for(struct declarations *declarations, xmlEntityPtr entity, bool is_in_value) {
     const struct feed *feed = declarations->feed;
@@ -366,6 +384,10 @@ static xmlEntityPtr given_for(struct declarations *declarations, xmlEntityPtr en
     }
     if (!is_in_value && is_to_include(declarations, entity)) {
         return include(declarations, entity);
+    }
+    xmlEntityPtr included = !is_in_value && has_many ? include_tall(declarations, entity) : NULL;
+    if (included != NULL) {
+        return included;
     }
     if (is_plain(declarations, (const char *)entity->content)) {
         declarations->plain.content = entity->content;
