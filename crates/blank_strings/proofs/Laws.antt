@@ -7,7 +7,7 @@ use Rattle.rng_model.specs.matching.Document.{Attribute, Item, an_element, Items
 use Rattle.rng_model.specs.matching.GrammarMatching.{IsValidBy}
 use Rattle.rng_model.specs.plain.WellFormed.{IsWellFormed}
 use Rattle.rng_model.specs.datatypes.Texts.{TextTests, texts_of}
-use Rattle.rng_model.specs.restrictions.Restrictions.{BreaksNone}
+use Rattle.rng_model.specs.restrictions.RestrictionFaults.{BreaksNone}
 use Rattle.rng_model.specs.xsd.SchemasWith.{in_restriction, BreaksNoClauseWith, IsValidBySchemaWith}
 use Rattle.rng_model.specs.simple.Table.{Table, grammar_of}
 use Rattle.rng_model.specs.xsd.TypeSets.{tests_in}

@@ -7,7 +7,7 @@ use Rattle.rng_model.specs.matching.Document.{Item}
 use Rattle.rng_model.specs.matching.GrammarMatching.{IsValidBy}
 use Rattle.rng_model.specs.plain.WellFormed.{IsWellFormed}
 use Rattle.rng_model.specs.datatypes.Texts.{TextTests, texts_of}
-use Rattle.rng_model.specs.restrictions.Restrictions.{BreaksNone}
+use Rattle.rng_model.specs.restrictions.RestrictionFaults.{BreaksNone}
 use Rattle.rng_model.specs.xsd.SchemasWith.{BreaksNoClauseWith, IsValidBySchemaWith}
 use Rattle.rng_model.specs.documents.PyxTrees.{Event, Placed, item_of}
 use Rattle.rng_model.specs.documents.Telling.{TellsDocument}

@@ -205,12 +205,12 @@ module _ (s : Scope) (ds : List Declaration) (is : IsFound nothing_declared s ds
     by true = says_this refl
     by false = is.datatypes p
 
-  says_name : (ns : Namespace) (n : syntax.Name written) → Says (name_in s ns n) (name_by ds ns n)
+  says_name : (ns : Namespace) (n : syntax.NameAt written) → Says (name_in s ns n) (name_by ds ns n)
   says_name ns (syntax.unprefixed l) = says_this refl
   says_name ns (syntax.prefixed p l) = one (namespace_in s p) (namespace_by ds p) (λ u. record { namespace = u; local = l }) (says_namespace p)
 
   mutual
-    says_class : (ns : Namespace) (c : syntax.NameClass written) → Says (class_in s ns c) (class_by ds ns c)
+    says_class : (ns : Namespace) (c : syntax.NameClassAt written) → Says (class_in s ns c) (class_by ds ns c)
     says_class ns syntax.any_name = says_this refl
     says_class ns (syntax.any_except c) = one (class_in s ns c) (class_by ds ns c) syntax.any_except (says_class ns c)
     says_class ns (syntax.ns_name p) = one (namespace_in s p) (namespace_by ds p) syntax.ns_name (says_namespace p)
@@ -219,7 +219,7 @@ module _ (s : Scope) (ds : List Declaration) (is : IsFound nothing_declared s ds
     says_class ns (syntax.name_is n) = one (name_in s ns n) (name_by ds ns n) syntax.name_is (says_name ns n)
     says_class ns (syntax.one_of cs) = one (classes_in s ns cs) (classes_by ds ns cs) syntax.one_of (says_classes ns cs)
 
-    says_classes : (ns : Namespace) (cs : syntax.NameClasses written) → Says (classes_in s ns cs) (classes_by ds ns cs)
+    says_classes : (ns : Namespace) (cs : syntax.NameClassesAt written) → Says (classes_in s ns cs) (classes_by ds ns cs)
     says_classes ns syntax.no_classes = says_this refl
     says_classes ns (syntax.class_and c cs) =
         two (class_in s ns c) (classes_in s ns cs) (class_by ds ns c) (classes_by ds ns cs) syntax.class_and (says_class ns c) (says_classes ns cs)
@@ -236,11 +236,11 @@ module _ (s : Scope) (ds : List Declaration) (is : IsFound nothing_declared s ds
   says_mention : (m : syntax.Mention written) → Says (mention_in s m) (mention_by ds m)
   says_mention m = one (handed_on s m.inherit) (passed_on ds m.inherit) (λ u. record { href = m.href; inherit = u; token = m.token }) (says_passed m.inherit)
 
-  says_element_class : (c : syntax.NameClass written) → Says (class_in s (default_of s) c) (class_by ds (declared_default ds) c)
+  says_element_class : (c : syntax.NameClassAt written) → Says (class_in s (default_of s) c) (class_by ds (declared_default ds) c)
   says_element_class c = subst (λ ns. Says (class_in s (default_of s) c) (class_by ds ns c)) default_same (says_class (default_of s) c)
 
   mutual
-    says_pattern : (p : syntax.Pattern written) → Says (pattern_in s p) (pattern_by ds p)
+    says_pattern : (p : syntax.PatternAt written) → Says (pattern_in s p) (pattern_by ds p)
     says_pattern (syntax.element c p) =
         two (class_in s (default_of s) c) (pattern_in s p) (class_by ds (declared_default ds) c) (pattern_by ds p) syntax.element (says_element_class c)
         (says_pattern p)
@@ -264,19 +264,19 @@ module _ (s : Scope) (ds : List Declaration) (is : IsFound nothing_declared s ds
     says_pattern (syntax.grammar cs) = one (components_in s cs) (components_by ds cs) syntax.grammar (says_components cs)
     says_pattern (syntax.joined k ps) = one (patterns_in s ps) (patterns_by ds ps) (syntax.joined k) (says_patterns ps)
 
-    says_patterns : (ps : syntax.Patterns written) → Says (patterns_in s ps) (patterns_by ds ps)
+    says_patterns : (ps : syntax.PatternsAt written) → Says (patterns_in s ps) (patterns_by ds ps)
     says_patterns syntax.no_patterns = says_this refl
     says_patterns (syntax.pattern_and p ps) =
         two (pattern_in s p) (patterns_in s ps) (pattern_by ds p) (patterns_by ds ps) syntax.pattern_and (says_pattern p) (says_patterns ps)
 
-    says_component : (c : syntax.Component written) → Says (component_in s c) (component_by ds c)
+    says_component : (c : syntax.ComponentAt written) → Says (component_in s c) (component_by ds c)
     says_component (syntax.start m p) = one (pattern_in s p) (pattern_by ds p) (syntax.start m) (says_pattern p)
     says_component (syntax.define n m p) = one (pattern_in s p) (pattern_by ds p) (syntax.define n m) (says_pattern p)
     says_component (syntax.div cs) = one (components_in s cs) (components_by ds cs) syntax.div (says_components cs)
     says_component (syntax.include m cs) =
         two (mention_in s m) (components_in s cs) (mention_by ds m) (components_by ds cs) syntax.include (says_mention m) (says_components cs)
 
-    says_components : (cs : syntax.Components written) → Says (components_in s cs) (components_by ds cs)
+    says_components : (cs : syntax.ComponentsAt written) → Says (components_in s cs) (components_by ds cs)
     says_components syntax.no_components = says_this refl
     says_components (syntax.component_and c cs) =
         two (component_in s c) (components_in s cs) (component_by ds c) (components_by ds cs) syntax.component_and (says_component c) (says_components cs)

@@ -2,7 +2,7 @@
 use Rattle.std.proofs.Common.{◌≢◌, refl, ℕ, List, [], ◌∷◌, Some, None, codes}
 use Rattle.rng_model.specs.names.Lists.{here, there}
 use Rattle.rng_model.specs.names.Names.{xml_uri}
-use Rattle.rnc_model.specs.grammar.Syntax.{written, prefixed, name_is, any_except, ns_name, prefixed_type, Pattern, element, empty, data_of, external, start}
+use Rattle.rnc_model.specs.grammar.Syntax.{written, prefixed, name_is, any_except, ns_name, prefixed_type, PatternAt, element, empty, data_of, external, start}
 use Rattle.rnc_model.specs.grammar.Syntax.{include, component_and, no_components, inherit, literal, Declaration, namespace, default_namespace, datatypes}
 use Rattle.rnc_model.specs.grammar.Syntax.{pattern_body, grammar_body, File}
 use Rattle.rnc_model.specs.declarations.Declarations.{file_tree}
@@ -13,7 +13,7 @@ use Rattle.rnc_model.specs.declarations.DeclarationRules.{datatype_prefix_undecl
 use Rattle.rnc_grammar.proofs.DeclarationRules.{kept_where_tree}
 
 -- the declarations, and one pattern
-abbrev file : List Declaration → Pattern written → File
+abbrev file : List Declaration → PatternAt written → File
 file ds p = record { declarations = ds; body = pattern_body p }
 
 -- the prefixes of these examples
@@ -27,7 +27,7 @@ p_is_not_xml : p ≢ codes "xml"
 p_is_not_xml e = cc
 
 -- `element p:a { .. }`
-abbrev element_of : List ℕ → Pattern written → Pattern written
+abbrev element_of : List ℕ → PatternAt written → PatternAt written
 element_of p content = element (name_is (prefixed p (codes "a"))) content
 
 -- `namespace xml = inherit`

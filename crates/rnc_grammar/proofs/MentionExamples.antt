@@ -2,7 +2,7 @@
 use Rattle.std.proofs.Common.{◌≡◌, refl, ℕ, List, [], ◌∷◌, codes}
 use Rattle.rng_model.specs.simple.Tree.{group}
 use Rattle.rng_model.specs.declared.method.Method.TheVariants as methods
-use Rattle.rnc_model.specs.grammar.Syntax.{applied, Mention, inherited, any_name, element, external, grammar, ref, text, members, Component, start, define}
+use Rattle.rnc_model.specs.grammar.Syntax.{applied, Mention, inherited, any_name, element, external, grammar, ref, text, members, ComponentAt, start, define}
 use Rattle.rnc_model.specs.grammar.Syntax.{div, include, components_of}
 use Rattle.rnc_model.specs.declarations.FileTree.{pattern_file, grammar_file}
 use Rattle.rnc_model.specs.loading.Mentions.{external_file, included_file, mentions_of}
@@ -16,7 +16,7 @@ pub in_an_element : mentions_of (pattern_file (element any_name (external (menti
 in_an_element = refl
 
 -- `include "g" { start = external "x" }`: the file of the include, and then the external in its braces
-abbrev in_braces : List (Component applied)
+abbrev in_braces : List (ComponentAt applied)
 in_braces = start methods.Plain (external (mention (codes "x") 6)) ∷ []
 
 pub in_the_braces : mentions_of (grammar_file (components_of (include (mention (codes "g") 1) (components_of in_braces) ∷ []))) ≡

@@ -23,7 +23,7 @@ use Rattle.rnc_grammar.proofs.KeywordNumbers.{numbers_increase}
 -- ---- the tokens of the mentions in a syntax tree
 
 abbrev mutual
-  tokens_in : syntax.Pattern written → List ℕ
+  tokens_in : syntax.PatternAt written → List ℕ
   tokens_in (syntax.element c p) = tokens_in p
   tokens_in (syntax.attribute c p) = tokens_in p
   tokens_in (syntax.list p) = tokens_in p
@@ -43,17 +43,17 @@ abbrev mutual
   tokens_in (syntax.grammar cs) = tokens_in_components cs
   tokens_in (syntax.joined k ps) = tokens_in_patterns ps
 
-  tokens_in_patterns : syntax.Patterns written → List ℕ
+  tokens_in_patterns : syntax.PatternsAt written → List ℕ
   tokens_in_patterns syntax.no_patterns = []
   tokens_in_patterns (syntax.pattern_and p ps) = tokens_in p ++ tokens_in_patterns ps
 
-  tokens_in_component : syntax.Component written → List ℕ
+  tokens_in_component : syntax.ComponentAt written → List ℕ
   tokens_in_component (syntax.start m p) = tokens_in p
   tokens_in_component (syntax.define n m p) = tokens_in p
   tokens_in_component (syntax.div cs) = tokens_in_components cs
   tokens_in_component (syntax.include m cs) = m.token ∷ tokens_in_components cs
 
-  tokens_in_components : syntax.Components written → List ℕ
+  tokens_in_components : syntax.ComponentsAt written → List ℕ
   tokens_in_components syntax.no_components = []
   tokens_in_components (syntax.component_and c cs) = tokens_in_component c ++ tokens_in_components cs
 
@@ -64,26 +64,26 @@ tokens_in_body (syntax.grammar_body cs) = tokens_in_components cs
 -- ---- they are numbers of keywords, in order
 
 mutual
-  pattern_within : {ts : List Lexeme} {p : syntax.Pattern written} → IsPattern ts p → AreNumbersIn (tokens_in p) ts
+  pattern_within : {ts : List Lexeme} {p : syntax.PatternAt written} → IsPattern ts p → AreNumbersIn (tokens_in p) ts
   pattern_within (grammar.one_particle q) = particle_within q
   pattern_within (grammar.particles k q more parts is) = rw (parts, is) (numbers_of_both (particle_within q) (more_within more))
   pattern_within (grammar.data_except x n type ps q parts) = rw parts (numbers_after _ (numbers_later (numbers_after _ (numbers_later (primary_within q)))))
 
-  more_within : {s : Sign} {ts : List Lexeme} {ps : List (syntax.Pattern written)} → AreMore s ts ps
+  more_within : {s : Sign} {ts : List Lexeme} {ps : List (syntax.PatternAt written)} → AreMore s ts ps
       → AreNumbersIn (tokens_in_patterns (syntax.patterns_of ps)) ts
   more_within (grammar.last_particle q parts) = rw (parts, append-nil) (numbers_later (particle_within q))
   more_within (grammar.more_particles q more parts) = rw parts (numbers_later (numbers_of_both (particle_within q) (more_within more)))
 
-  particle_within : {ts : List Lexeme} {p : syntax.Pattern written} → IsParticle ts p → AreNumbersIn (tokens_in p) ts
+  particle_within : {ts : List Lexeme} {p : syntax.PatternAt written} → IsParticle ts p → AreNumbersIn (tokens_in p) ts
   particle_within (grammar.once q) = primary_within q
   particle_within (grammar.optional q parts) = rw parts (numbers_before _ (primary_within q))
   particle_within (grammar.zero_or_more q parts) = rw parts (numbers_before _ (primary_within q))
   particle_within (grammar.one_or_more q parts) = rw parts (numbers_before _ (primary_within q))
 
-  primary_within : {ts : List Lexeme} {p : syntax.Pattern written} → IsPrimary ts p → AreNumbersIn (tokens_in p) ts
+  primary_within : {ts : List Lexeme} {p : syntax.PatternAt written} → IsPrimary ts p → AreNumbersIn (tokens_in p) ts
   primary_within (grammar.annotated_primary n q parts) = rw parts (numbers_after _ (bare_primary_within q))
 
-  bare_primary_within : {ts : List Lexeme} {p : syntax.Pattern written} → IsBarePrimary ts p → AreNumbersIn (tokens_in p) ts
+  bare_primary_within : {ts : List Lexeme} {p : syntax.PatternAt written} → IsBarePrimary ts p → AreNumbersIn (tokens_in p) ts
   bare_primary_within (grammar.element c q parts) = rw parts (numbers_later (numbers_after _ (braced_within q)))
   bare_primary_within (grammar.attribute c q parts) = rw parts (numbers_later (numbers_after _ (braced_within q)))
   bare_primary_within (grammar.list q parts) = rw parts (numbers_later (braced_within q))
@@ -100,25 +100,25 @@ mutual
   bare_primary_within (grammar.grammar cs parts is) = rw (parts, is) (numbers_later (numbers_later (numbers_before _ (components_within cs))))
   bare_primary_within (grammar.in_parens q parts) = rw parts (numbers_later (numbers_before _ (pattern_within q)))
 
-  braced_within : {ts : List Lexeme} {p : syntax.Pattern written} → IsBraced ts p → AreNumbersIn (tokens_in p) ts
+  braced_within : {ts : List Lexeme} {p : syntax.PatternAt written} → IsBraced ts p → AreNumbersIn (tokens_in p) ts
   braced_within (grammar.in_braces q parts) = rw parts (numbers_later (numbers_before _ (pattern_within q)))
 
-  components_within : {w : Setting} {ts : List Lexeme} {cs : List (syntax.Component written)} → AreComponents w ts cs
+  components_within : {w : Setting} {ts : List Lexeme} {cs : List (syntax.ComponentAt written)} → AreComponents w ts cs
       → AreNumbersIn (tokens_in_components (syntax.components_of cs)) ts
   components_within (grammar.no_components parts) = no_numbers
   components_within (grammar.and_component c cs parts) = rw parts (numbers_of_both (component_within c) (components_within cs))
 
-  component_within : {w : Setting} {ts : List Lexeme} {c : syntax.Component written} → IsComponent w ts c → AreNumbersIn (tokens_in_component c) ts
+  component_within : {w : Setting} {ts : List Lexeme} {c : syntax.ComponentAt written} → IsComponent w ts c → AreNumbersIn (tokens_in_component c) ts
   component_within (grammar.annotated_component n c parts) = rw parts (numbers_after _ (bare_component_within c))
 
-  bare_component_within : {w : Setting} {ts : List Lexeme} {c : syntax.Component written} → IsBareComponent w ts c → AreNumbersIn (tokens_in_component c) ts
+  bare_component_within : {w : Setting} {ts : List Lexeme} {c : syntax.ComponentAt written} → IsBareComponent w ts c → AreNumbersIn (tokens_in_component c) ts
   bare_component_within (grammar.start m q parts) = rw parts (numbers_later (numbers_later (pattern_within q)))
   bare_component_within (grammar.define m q parts) = rw parts (numbers_later (numbers_later (pattern_within q)))
   bare_component_within (grammar.div cs parts is) = rw (parts, is) (numbers_later (numbers_later (numbers_before _ (components_within cs))))
   bare_component_within (grammar.include setting v p over parts is) =
       rw (parts, is) (number_here refl (numbers_after _ (numbers_after _ (overrides_within over))))
 
-  overrides_within : {ts : List Lexeme} {cs : List (syntax.Component written)} → MayOverride ts cs
+  overrides_within : {ts : List Lexeme} {cs : List (syntax.ComponentAt written)} → MayOverride ts cs
       → AreNumbersIn (tokens_in_components (syntax.components_of cs)) ts
   overrides_within (grammar.without_overrides parts) = no_numbers
   overrides_within (grammar.with_overrides cs parts) = rw parts (numbers_later (numbers_before _ (components_within cs)))
@@ -158,16 +158,16 @@ two None q f same has more = is_none
 two (Some x) None f same has more = is_none
 two (Some x) (Some y) f same (has_these has) (has_these more) = has_these (same x y ∙ ap₂ (λ ns ms. ns ++ ms) has more)
 
-abbrev tokens_of_pattern : syntax.Pattern applied → List ℕ
+abbrev tokens_of_pattern : syntax.PatternAt applied → List ℕ
 tokens_of_pattern p = tokens_of (mentions_of_pattern p)
 
-abbrev tokens_of_patterns : syntax.Patterns applied → List ℕ
+abbrev tokens_of_patterns : syntax.PatternsAt applied → List ℕ
 tokens_of_patterns ps = tokens_of (mentions_of_patterns ps)
 
-abbrev tokens_of_component : syntax.Component applied → List ℕ
+abbrev tokens_of_component : syntax.ComponentAt applied → List ℕ
 tokens_of_component c = tokens_of (mentions_of_component c)
 
-abbrev tokens_of_components : syntax.Components applied → List ℕ
+abbrev tokens_of_components : syntax.ComponentsAt applied → List ℕ
 tokens_of_components cs = tokens_of (mentions_of_components cs)
 
 abbrev token_of_mention : syntax.Mention applied → List ℕ
@@ -177,7 +177,7 @@ mention_has : (s : Scope) (m : syntax.Mention written) → Has token_of_mention 
 mention_has s m = then (handed_on s m.inherit) _ (λ u. has_these refl)
 
 mutual
-  pattern_has : (s : Scope) (p : syntax.Pattern written) → Has tokens_of_pattern (pattern_in s p) (tokens_in p)
+  pattern_has : (s : Scope) (p : syntax.PatternAt written) → Has tokens_of_pattern (pattern_in s p) (tokens_in p)
   pattern_has s (syntax.element c p) = then (class_in s (default_of s) c) _ (λ c. one (pattern_in s p) (syntax.element c) (λ p. refl) (pattern_has s p))
   pattern_has s (syntax.attribute c p) = then (class_in s (given []) c) _ (λ c. one (pattern_in s p) (syntax.attribute c) (λ p. refl) (pattern_has s p))
   pattern_has s (syntax.list p) = one (pattern_in s p) syntax.list (λ p. refl) (pattern_has s p)
@@ -197,20 +197,20 @@ mutual
   pattern_has s (syntax.grammar cs) = one (components_in s cs) syntax.grammar (λ cs. refl) (components_have s cs)
   pattern_has s (syntax.joined k ps) = one (patterns_in s ps) (syntax.joined k) (λ ps. refl) (patterns_have s ps)
 
-  patterns_have : (s : Scope) (ps : syntax.Patterns written) → Has tokens_of_patterns (patterns_in s ps) (tokens_in_patterns ps)
+  patterns_have : (s : Scope) (ps : syntax.PatternsAt written) → Has tokens_of_patterns (patterns_in s ps) (tokens_in_patterns ps)
   patterns_have s syntax.no_patterns = has_these refl
   patterns_have s (syntax.pattern_and p ps) =
       two (pattern_in s p) (patterns_in s ps) syntax.pattern_and (λ p ps. map-append _ (mentions_of_pattern p) (mentions_of_patterns ps)) (pattern_has s p)
       (patterns_have s ps)
 
-  component_has : (s : Scope) (c : syntax.Component written) → Has tokens_of_component (component_in s c) (tokens_in_component c)
+  component_has : (s : Scope) (c : syntax.ComponentAt written) → Has tokens_of_component (component_in s c) (tokens_in_component c)
   component_has s (syntax.start m p) = one (pattern_in s p) (syntax.start m) (λ p. refl) (pattern_has s p)
   component_has s (syntax.define n m p) = one (pattern_in s p) (syntax.define n m) (λ p. refl) (pattern_has s p)
   component_has s (syntax.div cs) = one (components_in s cs) syntax.div (λ cs. refl) (components_have s cs)
   component_has s (syntax.include m cs) =
       two (mention_in s m) (components_in s cs) syntax.include (λ m cs. refl) (mention_has s m) (components_have s cs)
 
-  components_have : (s : Scope) (cs : syntax.Components written) → Has tokens_of_components (components_in s cs) (tokens_in_components cs)
+  components_have : (s : Scope) (cs : syntax.ComponentsAt written) → Has tokens_of_components (components_in s cs) (tokens_in_components cs)
   components_have s syntax.no_components = has_these refl
   components_have s (syntax.component_and c cs) =
       two (component_in s c) (components_in s cs) syntax.component_and (λ c cs. map-append _ (mentions_of_component c) (mentions_of_components cs))

@@ -51,17 +51,17 @@ row and rows step None others rest e = refl
 row and rows step (Some y) others None e = rw e refl
 row and rows step (Some y) others (Some ys) e = rw (e, step y ys) refl
 
-classes_row : (s : Scope) (ns : syntax.Namespace) (cs : List (syntax.NameClass written)) → classes_in s ns (syntax.classes_of cs) ≡ (each (class_in s ns) cs
+classes_row : (s : Scope) (ns : syntax.Namespace) (cs : List (syntax.NameClassAt written)) → classes_in s ns (syntax.classes_of cs) ≡ (each (class_in s ns) cs
     >>= λ cs. Some (syntax.classes_of cs))
 classes_row s ns [] = refl
 classes_row s ns (c ∷ cs) = row syntax.class_and syntax.classes_of (λ y ys. refl) (class_in s ns c) _ (each (class_in s ns) cs) (classes_row s ns cs)
 
-patterns_row : (s : Scope) (ps : List (syntax.Pattern written))
+patterns_row : (s : Scope) (ps : List (syntax.PatternAt written))
     → patterns_in s (syntax.patterns_of ps) ≡ (each (pattern_in s) ps >>= λ ps. Some (syntax.patterns_of ps))
 patterns_row s [] = refl
 patterns_row s (p ∷ ps) = row syntax.pattern_and syntax.patterns_of (λ y ys. refl) (pattern_in s p) _ (each (pattern_in s) ps) (patterns_row s ps)
 
-pub components_row : (s : Scope) (cs : List (syntax.Component written)) → components_in s (syntax.components_of cs) ≡ (each (component_in s) cs
+pub components_row : (s : Scope) (cs : List (syntax.ComponentAt written)) → components_in s (syntax.components_of cs) ≡ (each (component_in s) cs
     >>= λ cs. Some (syntax.components_of cs))
 components_row s [] = refl
 components_row s (c ∷ cs) = row syntax.component_and syntax.components_of (λ y ys. refl) (component_in s c) _ (each (component_in s) cs) (components_row s cs)
@@ -72,11 +72,11 @@ made : {B R T : Type 0} (rows : List B → R) (make : R → T) (others : Option 
 made rows make others None e = rw e refl
 made rows make others (Some ys) e = rw e refl
 
-pub choice_in : (s : Scope) (ns : syntax.Namespace) (cs : List (syntax.NameClass written)) → class_in s ns (syntax.choice_of cs) ≡ (each (class_in s ns) cs
+pub choice_in : (s : Scope) (ns : syntax.Namespace) (cs : List (syntax.NameClassAt written)) → class_in s ns (syntax.choice_of cs) ≡ (each (class_in s ns) cs
     >>= λ cs. Some (syntax.choice_of cs))
 choice_in s ns cs = made syntax.classes_of syntax.one_of _ (each (class_in s ns) cs) (classes_row s ns cs)
 
-pub members_in : (k : Connector) (s : Scope) (ps : List (syntax.Pattern written)) → pattern_in s (syntax.members k ps) ≡ (each (pattern_in s) ps
+pub members_in : (k : Connector) (s : Scope) (ps : List (syntax.PatternAt written)) → pattern_in s (syntax.members k ps) ≡ (each (pattern_in s) ps
     >>= λ ps. Some (syntax.members k ps))
 members_in k s ps = made syntax.patterns_of (syntax.joined k) _ (each (pattern_in s) ps) (patterns_row s ps)
 

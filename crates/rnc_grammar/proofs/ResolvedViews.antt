@@ -62,8 +62,8 @@ pub plain_in : (s : Scope) (d : tree.DatatypeName written) (ps values : List (Li
     → Some ps ≡ Some values → pattern_in s (tree.data_of d ps) ≡ Some (tree.data_of u values)
 plain_in s d ps values u type same = rw type (ap (option_map (tree.data_of u)) same)
 
-pub except_in : (s : Scope) (d : tree.DatatypeName written) (ps values : List (List ℕ × List ℕ)) (p : tree.Pattern written) (u : tree.DatatypeName applied)
-    (q : tree.Pattern applied)
+pub except_in : (s : Scope) (d : tree.DatatypeName written) (ps values : List (List ℕ × List ℕ)) (p : tree.PatternAt written) (u : tree.DatatypeName applied)
+    (q : tree.PatternAt applied)
     → type_in s d ≡ Some u → Some ps ≡ Some values → pattern_in s p ≡ Some q → pattern_in s (tree.data_except d ps p) ≡ Some (tree.data_except u values q)
 except_in s d ps values p u q type same except = rw (type, except) (ap (option_map (λ ps. tree.data_except u ps q)) same)
 

@@ -39,12 +39,12 @@ joined : {A B C : Type 0} (s : Scope) (xs ys : List Declarable) (o : Option A) (
     → is_some q ≡ are_known s ys → is_some (o >>= λ x. q >>= λ y. Some (f x y)) ≡ are_known s (xs ++ ys)
 joined s xs ys o q f d e = two o q f ∙ ap₂ (λ a b. a && b) d e ∙ sym (list_all-append (is_known s) xs ys)
 
-name_known : (s : Scope) (ns : Namespace) (n : syntax.Name written) → is_some (name_in s ns n) ≡ are_known s (prefixes_of_name n)
+name_known : (s : Scope) (ns : Namespace) (n : syntax.NameAt written) → is_some (name_in s ns n) ≡ are_known s (prefixes_of_name n)
 name_known s ns (syntax.unprefixed l) = refl
 name_known s ns (syntax.prefixed p l) = one (namespace_in s p) _ ∙ sym (and-true _)
 
 mutual
-  class_known : (s : Scope) (ns : Namespace) (c : syntax.NameClass written) → is_some (class_in s ns c) ≡ are_known s (prefixes_of_class c)
+  class_known : (s : Scope) (ns : Namespace) (c : syntax.NameClassAt written) → is_some (class_in s ns c) ≡ are_known s (prefixes_of_class c)
   class_known s ns syntax.any_name = refl
   class_known s ns (syntax.any_except c) = one (class_in s ns c) syntax.any_except ∙ class_known s ns c
   class_known s ns (syntax.ns_name p) = one (namespace_in s p) syntax.ns_name ∙ sym (and-true _)
@@ -53,7 +53,7 @@ mutual
   class_known s ns (syntax.name_is n) = one (name_in s ns n) syntax.name_is ∙ name_known s ns n
   class_known s ns (syntax.one_of cs) = one (classes_in s ns cs) syntax.one_of ∙ classes_known s ns cs
 
-  classes_known : (s : Scope) (ns : Namespace) (cs : syntax.NameClasses written) → is_some (classes_in s ns cs) ≡ are_known s (prefixes_of_classes cs)
+  classes_known : (s : Scope) (ns : Namespace) (cs : syntax.NameClassesAt written) → is_some (classes_in s ns cs) ≡ are_known s (prefixes_of_classes cs)
   classes_known s ns syntax.no_classes = refl
   classes_known s ns (syntax.class_and c cs) =
       joined s (prefixes_of_class c) (prefixes_of_classes cs) (class_in s ns c) (classes_in s ns cs) syntax.class_and (class_known s ns c)
@@ -72,7 +72,7 @@ mention_known : (s : Scope) (m : syntax.Mention written) → is_some (mention_in
 mention_known s m = one (handed_on s m.inherit) _ ∙ inherit_known s m.inherit
 
 mutual
-  pattern_known : (s : Scope) (p : syntax.Pattern written) → is_some (pattern_in s p) ≡ are_known s (prefixes_of_pattern p)
+  pattern_known : (s : Scope) (p : syntax.PatternAt written) → is_some (pattern_in s p) ≡ are_known s (prefixes_of_pattern p)
   pattern_known s (syntax.element c p) =
       joined s (prefixes_of_class c) (prefixes_of_pattern p) (class_in s (default_of s) c) (pattern_in s p) syntax.element (class_known s _ c)
       (pattern_known s p)
@@ -97,13 +97,13 @@ mutual
   pattern_known s (syntax.grammar cs) = one (components_in s cs) syntax.grammar ∙ components_known s cs
   pattern_known s (syntax.joined k ps) = one (patterns_in s ps) (syntax.joined k) ∙ patterns_known s ps
 
-  patterns_known : (s : Scope) (ps : syntax.Patterns written) → is_some (patterns_in s ps) ≡ are_known s (prefixes_of_patterns ps)
+  patterns_known : (s : Scope) (ps : syntax.PatternsAt written) → is_some (patterns_in s ps) ≡ are_known s (prefixes_of_patterns ps)
   patterns_known s syntax.no_patterns = refl
   patterns_known s (syntax.pattern_and p ps) =
       joined s (prefixes_of_pattern p) (prefixes_of_patterns ps) (pattern_in s p) (patterns_in s ps) syntax.pattern_and (pattern_known s p)
       (patterns_known s ps)
 
-  component_known : (s : Scope) (c : syntax.Component written) → is_some (component_in s c) ≡ are_known s (prefixes_of_component c)
+  component_known : (s : Scope) (c : syntax.ComponentAt written) → is_some (component_in s c) ≡ are_known s (prefixes_of_component c)
   component_known s (syntax.start m p) = one (pattern_in s p) (syntax.start m) ∙ pattern_known s p
   component_known s (syntax.define n m p) = one (pattern_in s p) (syntax.define n m) ∙ pattern_known s p
   component_known s (syntax.div cs) = one (components_in s cs) syntax.div ∙ components_known s cs
@@ -111,7 +111,7 @@ mutual
       joined s (prefixes_of_inherit m.inherit) (prefixes_of_components cs) (mention_in s m) (components_in s cs) syntax.include (mention_known s m)
       (components_known s cs)
 
-  components_known : (s : Scope) (cs : syntax.Components written) → is_some (components_in s cs) ≡ are_known s (prefixes_of_components cs)
+  components_known : (s : Scope) (cs : syntax.ComponentsAt written) → is_some (components_in s cs) ≡ are_known s (prefixes_of_components cs)
   components_known s syntax.no_components = refl
   components_known s (syntax.component_and c cs) =
       joined s (prefixes_of_component c) (prefixes_of_components cs) (component_in s c) (components_in s cs) syntax.component_and (component_known s c)

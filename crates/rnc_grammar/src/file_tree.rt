@@ -1,7 +1,7 @@
 // The tree of a schema file, with its declarations applied.
-ghost use Rattle.std.specs.Prelude.{◌≡◌, map, option_map};
+ghost use Rattle.std.specs.Prelude.{◌≡◌, is_some, map, option_map};
 ghost use Rattle.rnc_model.specs.grammar.Syntax.{components_of};
-ghost use Rattle.rnc_model.specs.declarations.FileTree.{grammar_components, is_grammar as is_grammar_tree};
+ghost use Rattle.rnc_model.specs.declarations.FileTree.{grammar_components};
 ghost use Rattle.rnc_grammar.specs.views.View.{component_of, file_of};
 
 use rng_model::Method;
@@ -181,7 +181,7 @@ impl FileTree {
 
     /// Whether the file is a grammar. Allocates nothing.
     pub fn is_grammar(&self) -> bool
-        ensures { result ≡ is_grammar_tree (file_of self.now) }
+        ensures { result ≡ is_some (grammar_components (file_of self.now)) }
     {
         self.grammar().is_some()
     }

@@ -30,7 +30,7 @@ use Rattle.rnc_model.specs.grammar.Syntax as syntax
 use Rattle.rnc_model.specs.grammar.Syntax.{written, Declaration, File}
 use Rattle.rnc_model.specs.declared.token.Sign.TheVariants.{Tilde}
 use Rattle.rnc_model.specs.loading.DatatypePlaces as places
-use Rattle.rnc_model.specs.loading.DatatypePlaces.{BreaksDatatype, IsBrokenDatatype, datatype_by}
+use Rattle.rnc_model.specs.loading.DatatypePlaces.{IsBrokenUse, IsBrokenDatatype, datatype_by}
 use Rattle.rnc_model.specs.declared.token.Token as declared
 use Rattle.rnc_model.specs.loading.SchemaFile.{IsFileTree}
 use Rattle.rnc_model.specs.tokens.CutTokens.{tokens_of}
@@ -266,13 +266,13 @@ module _ (ds : List Declaration) (s : Scope) (is : declare_all nothing_declared 
     refused_false true e = refl
     refused_false false e = absurd (true≢false e)
 
-    broken_is : (u : Use) → is_broken types s u ≡ true → BreaksDatatype types ds u
+    broken_is : (u : Use) → is_broken types s u ≡ true → IsBrokenUse types ds u
     broken_is (namespace_of p) e = absurd (true≢false (sym e))
     broken_is (data_of d ps) e = places.of_data (subst (λ (t : Datatype). ¬ (IsKnownIn types t)) (same_datatype d ps) (unknown_true (datatype_in s d ps) e))
     broken_is (value_of d v) e = places.of_value (subst (λ (t : Datatype). ¬ (IsValueIn types t v)) (same_datatype d [])
         (refused_true (takes_values_in types (datatype_in s d []) && (tests_in types).allows (datatype_in s d []) v) e))
 
-    kept_is : (u : Use) → is_broken types s u ≡ false → ¬ (BreaksDatatype types ds u)
+    kept_is : (u : Use) → is_broken types s u ≡ false → ¬ (IsBrokenUse types ds u)
     kept_is (namespace_of p) e b = elim b [ ]
     kept_is (data_of d ps) e (places.of_data unknown) = unknown (subst (IsKnownIn types) (same_datatype d ps) (unknown_false (datatype_in s d ps) e))
     kept_is (value_of d v) e (places.of_value refused) = refused (subst (λ (t : Datatype). IsValueIn types t v) (same_datatype d [])
@@ -318,7 +318,7 @@ module _ (types : TypeSet) {a b : List Lexeme} (f : File) (ds : AreDeclarations 
       (sym (kept_in_body body)) (names_of_body body)
 
   first_at : (ts : List Lexeme) → length ts ≡ length a + length b → (k : ℕ) → first_of_all test (kept (in_body body)) ≡ Some k
-      → IsFirstAt (BreaksDatatype types f.declarations) (length a) (in_body body)
+      → IsFirstAt (IsBrokenUse types f.declarations) (length a) (in_body body)
       ((length ts - length b) + name_number k (map is_counted (in_body body)))
   first_at ts size k e =
       let first = first_passing test (others_keep types s) (in_body body) k e in
@@ -332,7 +332,7 @@ module _ (types : TypeSet) {a b : List Lexeme} (f : File) (ds : AreDeclarations 
       }
 
   none_at : first_of_all test (kept (in_body body)) ≡ None → (number : ℕ)
-      → ¬ (IsFirstAt (BreaksDatatype types f.declarations) (length a) (in_body body) number)
+      → ¬ (IsFirstAt (IsBrokenUse types f.declarations) (length a) (in_body body) number)
   none_at e number at =
       kept_is f.declarations s is types at.mark (none_passing test (others_keep types s) (in_body body) e at.index at.mark at.mark_is) at.holds
 

@@ -13,7 +13,7 @@ use Rattle.rnc_model.specs.declarations.DeclarationRules.{prefixes_of_type}
 use Rattle.rnc_model.specs.declarations.TokenUses.{in_basic, in_bare_basic, in_bare_component, in_bare_primary, in_body, in_braced, in_class, in_component}
 use Rattle.rnc_model.specs.declarations.TokenUses.{in_components, in_inherit, in_more, in_more_classes, in_overrides, in_particle, in_pattern, in_primary}
 use Rattle.rnc_model.specs.declarations.TokenUses.{Use, namespace_of, data_of, value_of, no_uses}
-use Rattle.rnc_model.specs.declarations.FaultyTokens.{prefix_in, prefix_of_type, prefixes_in}
+use Rattle.rnc_model.specs.declarations.FaultyTokens.{prefix_used_in, prefix_of_type, prefixes_in}
 use Rattle.rnc_model.specs.declared.token.Keyword.TheVariants as keywords
 use Rattle.rnc_model.specs.declared.token.Sign.{Sign}
 use Rattle.rnc_model.specs.declared.token.Sign.TheVariants.{And, AndEqual, Bar, BarEqual, CloseBrace, CloseBracket, CloseParenthesis, Comma, Equal, Minus}
@@ -92,11 +92,11 @@ module _ {d : ℕ} {a : Part} {e : ℕ} {b : Part} {ts : List Lexeme} {us : List
   joined_where {f = f} {c = c} {more = more} {vs = vs} fit p q = record {
     reads = λ rest. ap (marks d a) (append_assoc ts more rest) ∙ p.reads (more ++ rest)
         ∙ ap (λ (r : List (Option Declarable)). prefixes_in us ++ r) (q.reads rest) ∙ sym (append_assoc (prefixes_in us) (prefixes_in vs) (marks f c rest))
-        ∙ ap (λ (r : List (Option Declarable)). r ++ marks f c rest) (sym (map-append prefix_in us vs));
+        ∙ ap (λ (r : List (Option Declarable)). r ++ marks f c rest) (sym (map-append prefix_used_in us vs));
     finds = λ rest fits. ap (names d a) (append_assoc ts more rest) ∙ p.finds (more ++ rest) (fit rest fits)
         ∙ ap (λ (r : List Bool). map is_counted us ++ r) (q.finds rest fits) ∙ sym (append_assoc (map is_counted us) (map is_counted vs) (names f c rest))
         ∙ ap (λ (r : List Bool). r ++ names f c rest) (sym (map-append is_counted us vs));
-    are = ap present (map-append prefix_in us vs) ∙ present_both (prefixes_in us) (prefixes_in vs) ∙ ap₂ (λ (x y : List Declarable). x ++ y) p.are q.are;
+    are = ap present (map-append prefix_used_in us vs) ∙ present_both (prefixes_in us) (prefixes_in vs) ∙ ap₂ (λ (x y : List Declarable). x ++ y) p.are q.are;
     keeps = kept_both us vs ∙ ap₂ (λ (x y : List Use). x ++ y) p.keeps q.keeps;
   }
 
@@ -266,7 +266,7 @@ ns_front p q = record {
 }
 
 mutual
-  class_marked : {ts : List Lexeme} {c : syntax.NameClass written} → (p : IsClass ts c) → Marks false Class Class ts (in_class p) (prefixes_of_class c) []
+  class_marked : {ts : List Lexeme} {c : syntax.NameClassAt written} → (p : IsClass ts c) → Marks false Class Class ts (in_class p) (prefixes_of_class c) []
   class_marked (name_classes.basic_class p) = basic_marked p
   class_marked (name_classes.choice_class {c = c} {cs = cs} p q e f) =
       with_both (sym (ap prefixes_of_class f)) refl (is e (joined (basic_marked p) (more_classes_marked q)))
@@ -274,16 +274,16 @@ mutual
       is e (joined (class_note may) (token 0 Class (sign Star) refl (λ rest. refl) (token 0 Class (sign Minus) refl (λ rest. refl) (basic_marked p))))
   class_marked (name_classes.ns_except {p = w} may p e) = is e (joined (class_note may) (ns_front w (token 0 Class (sign Minus) refl (λ rest. refl) (basic_marked p))))
 
-  more_classes_marked : {ts : List Lexeme} {cs : List (syntax.NameClass written)} → (p : AreMoreClasses ts cs)
+  more_classes_marked : {ts : List Lexeme} {cs : List (syntax.NameClassAt written)} → (p : AreMoreClasses ts cs)
       → Marks false Class Class ts (in_more_classes p) (prefixes_of_classes (syntax.classes_of cs)) []
   more_classes_marked (name_classes.last_class {c = c} p e) =
       with_both (sym (append-nil (prefixes_of_class c))) refl (is e (token 0 Class (sign Bar) refl (λ rest. refl) (basic_marked p)))
   more_classes_marked (name_classes.more_classes p q e) = is e (token 0 Class (sign Bar) refl (λ rest. refl) (joined (basic_marked p) (more_classes_marked q)))
 
-  basic_marked : {ts : List Lexeme} {c : syntax.NameClass written} → (p : IsBasic ts c) → Marks false Class Class ts (in_basic p) (prefixes_of_class c) []
+  basic_marked : {ts : List Lexeme} {c : syntax.NameClassAt written} → (p : IsBasic ts c) → Marks false Class Class ts (in_basic p) (prefixes_of_class c) []
   basic_marked (name_classes.annotated_basic may p e) = is e (joined (class_note may) (bare_basic_marked p))
 
-  bare_basic_marked : {ts : List Lexeme} {c : syntax.NameClass written} → (p : IsBareBasic ts c) → Marks false Class Class ts (in_bare_basic p) (prefixes_of_class c) []
+  bare_basic_marked : {ts : List Lexeme} {c : syntax.NameClassAt written} → (p : IsBareBasic ts c) → Marks false Class Class ts (in_bare_basic p) (prefixes_of_class c) []
   bare_basic_marked (name_classes.word_class {x = x} {w = w} word e) = is e (word_in_class x w word)
   bare_basic_marked (name_classes.cname_class {p = p} {l = l} e) = is e (record { reads = λ rest. refl; finds = λ rest fits. refl; are = refl; keeps = refl })
   bare_basic_marked (name_classes.ns_class {p = p} e) = is e (ns_front p (nothing 0 Class))
@@ -317,7 +317,7 @@ literal_opens (name_classes.one_segment e) rest = rw e refl
 literal_opens (name_classes.more_segments p e f) rest = rw e refl
 
 -- the name of a datatype, and the tokens after it
-module _ {k : Bool} (make : syntax.DatatypeName written → Use) (prefix : (n : syntax.DatatypeName written) → prefix_in (Some (make n)) ≡ prefix_of_type n)
+module _ {k : Bool} (make : syntax.DatatypeName written → Use) (prefix : (n : syntax.DatatypeName written) → prefix_used_in (Some (make n)) ≡ prefix_of_type n)
     {ts : List Lexeme} {us : List (Option Use)} {xs : List Declarable} {ws : List Use}
     (counts : (n : syntax.DatatypeName written) (rest : List Lexeme) → Fits k rest → (is_prefixed n || opens_parameters (ts ++ rest)) ≡ may_break (make n))
     (q : Marks k Body Body ts us xs ws) where
@@ -377,31 +377,31 @@ connector_begins And k e ts = refl
 connector_begins Bar k e ts = refl
 connector_begins _ k e ts = absurd cc
 
-more_begin : {s : Sign} {ts : List Lexeme} {us : List (syntax.Pattern written)} (k : Connector) → connector_of s ≡ Some k → AreMore s ts us
+more_begin : {s : Sign} {ts : List Lexeme} {us : List (syntax.PatternAt written)} (k : Connector) → connector_of s ≡ Some k → AreMore s ts us
     → (rest : List Lexeme) → opens_parameters (ts ++ rest) ≡ false
 more_begin {s} k joins (grammar.last_particle {a = ts} p e) rest = rw e (connector_begins s k joins (ts ++ rest))
 more_begin {s} k joins (grammar.more_particles {a = ts} {b = us} p q e) rest = rw e (connector_begins s k joins ((ts ++ us) ++ rest))
 
-bare_component_begins : {w : Setting} {ts : List Lexeme} {c : syntax.Component written} → IsBareComponent w ts c → (rest : List Lexeme)
+bare_component_begins : {w : Setting} {ts : List Lexeme} {c : syntax.ComponentAt written} → IsBareComponent w ts c → (rest : List Lexeme)
     → opens_parameters (ts ++ rest) ≡ false
 bare_component_begins (grammar.start method p e) rest = rw e refl
 bare_component_begins (grammar.define method p e) rest = rw e refl
 bare_component_begins (grammar.div p e f) rest = rw e refl
 bare_component_begins (grammar.include content p may q e f) rest = rw e refl
 
-component_begins : {w : Setting} {ts : List Lexeme} {c : syntax.Component written} → IsComponent w ts c → (rest : List Lexeme)
+component_begins : {w : Setting} {ts : List Lexeme} {c : syntax.ComponentAt written} → IsComponent w ts c → (rest : List Lexeme)
     → opens_parameters (ts ++ rest) ≡ false
 component_begins (grammar.annotated_component (name_classes.without_annotation f) p e) rest = rw (e, f) (bare_component_begins p rest)
 component_begins (grammar.annotated_component (name_classes.with_annotation q f) p e) rest = rw (e, f) refl
 
-components_begin : {w : Setting} {ts : List Lexeme} {cs : List (syntax.Component written)} → AreComponents w ts cs → (rest : List Lexeme)
+components_begin : {w : Setting} {ts : List Lexeme} {cs : List (syntax.ComponentAt written)} → AreComponents w ts cs → (rest : List Lexeme)
     → opens_parameters rest ≡ false → opens_parameters (ts ++ rest) ≡ false
 components_begin (grammar.no_components e) rest none = rw e none
 components_begin (grammar.and_component {a = ts} {b = us} p q e) rest none =
     rw e (ap opens_parameters (append_assoc ts us rest) ∙ component_begins p (us ++ rest))
 
 mutual
-  pattern_marked : {ts : List Lexeme} {t : syntax.Pattern written} → (p : IsPattern ts t) → Marks true Body Body ts (in_pattern p) (prefixes_of_pattern t) (uses_of_pattern t)
+  pattern_marked : {ts : List Lexeme} {t : syntax.PatternAt written} → (p : IsPattern ts t) → Marks true Body Body ts (in_pattern p) (prefixes_of_pattern t) (uses_of_pattern t)
   pattern_marked (grammar.one_particle p) = particle_marked p
   pattern_marked (grammar.particles {k = k} joins p q e f) =
       with_both (sym (ap prefixes_of_pattern f)) (sym (ap uses_of_pattern f))
@@ -412,23 +412,23 @@ mutual
       (ap opens_parameters (append_assoc ts (sign Minus ∷ us) rest) ∙ parameters_open ps (sign Minus ∷ (us ++ rest)) refl))
       (joined (may_parameters_marked ps) (token 0 Body (sign Minus) refl (λ rest. refl) (primary_marked p))) x d type))
 
-  more_marked : {s : Sign} {ts : List Lexeme} {us : List (syntax.Pattern written)} (k : Connector) → connector_of s ≡ Some k → (p : AreMore s ts us)
+  more_marked : {s : Sign} {ts : List Lexeme} {us : List (syntax.PatternAt written)} (k : Connector) → connector_of s ≡ Some k → (p : AreMore s ts us)
       → Marks true Body Body ts (in_more p) (prefixes_of_patterns (syntax.patterns_of us)) (uses_of_patterns (syntax.patterns_of us))
   more_marked {s} k joins (grammar.last_particle {t = t} p e) =
       with_both (sym (append-nil (prefixes_of_pattern t))) (sym (append-nil (uses_of_pattern t))) (is e (connector_front s k joins (particle_marked p)))
   more_marked {s} k joins (grammar.more_particles p q e) = is e (connector_front s k joins
       (joined_where {j = true} {k = true} (λ rest fits. more_begin k joins q rest) (particle_marked p) (more_marked k joins q)))
 
-  particle_marked : {ts : List Lexeme} {t : syntax.Pattern written} → (p : IsParticle ts t) → Marks true Body Body ts (in_particle p) (prefixes_of_pattern t) (uses_of_pattern t)
+  particle_marked : {ts : List Lexeme} {t : syntax.PatternAt written} → (p : IsParticle ts t) → Marks true Body Body ts (in_particle p) (prefixes_of_pattern t) (uses_of_pattern t)
   particle_marked (grammar.once p) = primary_marked p
   particle_marked (grammar.optional p e) = is e (closed 0 (sign Question) refl (λ rest. refl) (λ rest. refl) (primary_marked p))
   particle_marked (grammar.zero_or_more p e) = is e (closed 0 (sign Star) refl (λ rest. refl) (λ rest. refl) (primary_marked p))
   particle_marked (grammar.one_or_more p e) = is e (closed 0 (sign Plus) refl (λ rest. refl) (λ rest. refl) (primary_marked p))
 
-  primary_marked : {ts : List Lexeme} {t : syntax.Pattern written} → (p : IsPrimary ts t) → Marks true Body Body ts (in_primary p) (prefixes_of_pattern t) (uses_of_pattern t)
+  primary_marked : {ts : List Lexeme} {t : syntax.PatternAt written} → (p : IsPrimary ts t) → Marks true Body Body ts (in_primary p) (prefixes_of_pattern t) (uses_of_pattern t)
   primary_marked (grammar.annotated_primary may p e) = is e (joined (body_note may) (bare_primary_marked p))
 
-  bare_primary_marked : {ts : List Lexeme} {t : syntax.Pattern written} → (p : IsBarePrimary ts t)
+  bare_primary_marked : {ts : List Lexeme} {t : syntax.PatternAt written} → (p : IsBarePrimary ts t)
       → Marks true Body Body ts (in_bare_primary p) (prefixes_of_pattern t) (uses_of_pattern t)
   bare_primary_marked (grammar.element {s = s} c p e) = is e (token 0 Body (keyword keywords.Element s) refl (λ rest. refl) (joined (class_marked c) (class_braced p)))
   bare_primary_marked (grammar.attribute {s = s} c p e) = is e (token 0 Body (keyword keywords.Attribute s) refl (λ rest. refl) (joined (class_marked c) (class_braced p)))
@@ -458,23 +458,23 @@ mutual
   bare_primary_marked (grammar.in_parens p e) =
       is e (token 0 Body (sign OpenParenthesis) refl (λ rest. refl) (closed 0 (sign CloseParenthesis) refl (λ rest. refl) (λ rest. refl) (pattern_marked p)))
 
-  class_braced : {ts : List Lexeme} {t : syntax.Pattern written} → (p : IsBraced ts t) → Marks true Class Body ts (in_braced p) (prefixes_of_pattern t) (uses_of_pattern t)
+  class_braced : {ts : List Lexeme} {t : syntax.PatternAt written} → (p : IsBraced ts t) → Marks true Class Body ts (in_braced p) (prefixes_of_pattern t) (uses_of_pattern t)
   class_braced (grammar.in_braces p e) = is e (token 0 Class (sign OpenBrace) refl (λ rest. refl) (closed 0 (sign CloseBrace) refl (λ rest. refl) (λ rest. refl) (pattern_marked p)))
 
-  body_braced : {ts : List Lexeme} {t : syntax.Pattern written} → (p : IsBraced ts t) → Marks true Body Body ts (in_braced p) (prefixes_of_pattern t) (uses_of_pattern t)
+  body_braced : {ts : List Lexeme} {t : syntax.PatternAt written} → (p : IsBraced ts t) → Marks true Body Body ts (in_braced p) (prefixes_of_pattern t) (uses_of_pattern t)
   body_braced (grammar.in_braces p e) = is e (token 0 Body (sign OpenBrace) refl (λ rest. refl) (closed 0 (sign CloseBrace) refl (λ rest. refl) (λ rest. refl) (pattern_marked p)))
 
-  components_marked : {w : Setting} {ts : List Lexeme} {cs : List (syntax.Component written)} → (p : AreComponents w ts cs)
+  components_marked : {w : Setting} {ts : List Lexeme} {cs : List (syntax.ComponentAt written)} → (p : AreComponents w ts cs)
       → Marks true Body Body ts (in_components p) (prefixes_of_components (syntax.components_of cs)) (uses_of_components (syntax.components_of cs))
   components_marked (grammar.no_components e) = is e (nothing 0 Body)
   components_marked (grammar.and_component p q e) = is e
       (joined_where {j = true} {k = true} (λ rest fits. components_begin q rest fits) (component_marked p) (components_marked q))
 
-  component_marked : {w : Setting} {ts : List Lexeme} {c : syntax.Component written} → (p : IsComponent w ts c)
+  component_marked : {w : Setting} {ts : List Lexeme} {c : syntax.ComponentAt written} → (p : IsComponent w ts c)
       → Marks true Body Body ts (in_component p) (prefixes_of_component c) (uses_of_component c)
   component_marked (grammar.annotated_component may p e) = is e (joined (body_note may) (bare_component_marked p))
 
-  bare_component_marked : {w : Setting} {ts : List Lexeme} {c : syntax.Component written} → (p : IsBareComponent w ts c)
+  bare_component_marked : {w : Setting} {ts : List Lexeme} {c : syntax.ComponentAt written} → (p : IsBareComponent w ts c)
       → Marks true Body Body ts (in_bare_component p) (prefixes_of_component c) (uses_of_component c)
   bare_component_marked (grammar.start {x = x} {m = m} {s = s} method p e) =
       is e (token 0 Body (keyword keywords.Start s) refl (λ rest. refl) (method_front x m method (pattern_marked p)))
@@ -487,7 +487,7 @@ mutual
       with_both (sym (ap prefixes_of_component f)) (sym (ap uses_of_component f))
       (is e (token 0 Body (keyword keywords.Include s) refl (λ rest. refl) (joined (literal_in_body p) (joined (inherit_marked may) (overrides_marked q)))))
 
-  overrides_marked : {ts : List Lexeme} {cs : List (syntax.Component written)} → (p : MayOverride ts cs)
+  overrides_marked : {ts : List Lexeme} {cs : List (syntax.ComponentAt written)} → (p : MayOverride ts cs)
       → Marks true Body Body ts (in_overrides p) (prefixes_of_components (syntax.components_of cs)) (uses_of_components (syntax.components_of cs))
   overrides_marked (grammar.without_overrides e) = is e (nothing 0 Body)
   overrides_marked (grammar.with_overrides p e) = is e (token 0 Body (sign OpenBrace) refl (λ rest. refl) (closed 0 (sign CloseBrace) refl (λ rest. refl) (λ rest. refl) (components_marked p)))

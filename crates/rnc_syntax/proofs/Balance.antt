@@ -11,7 +11,7 @@ use Rattle.rnc_model.specs.declared.token.Sign.TheVariants.{Equal, BarEqual, And
 use Rattle.rnc_model.specs.declared.token.Sign.TheVariants.{OpenParenthesis, CloseParenthesis, OpenBracket, CloseBracket, Tilde}
 use Rattle.rng_model.specs.declared.method.Method.{Method}
 use Rattle.rnc_model.specs.tokens.Cut.{Lexeme, keyword, identifier, cname, ns_name, segment, sign}
-use Rattle.rnc_model.specs.grammar.Syntax.{written, NameClass, DatatypeName, Pattern, Component, Uri, Declaration}
+use Rattle.rnc_model.specs.grammar.Syntax.{written, NameClassAt, DatatypeName, PatternAt, ComponentAt, Uri, Declaration}
 use Rattle.rnc_model.specs.grammar.NameClasses as name_classes
 use Rattle.rnc_model.specs.grammar.Grammar as grammar
 use Rattle.rnc_model.specs.grammar.NameClasses.{word_of, type_of, method_of, connector_of, IsLiteral, AreParameters, MayBeParameters, MayInherit, IsClass}
@@ -227,7 +227,7 @@ may_inherit_even {ts} (name_classes.with_inherit {w = w} {x = x} {s = s} is e) =
     (plain_even (sign Equal) (x ∷ []) (sign Equal ∷ x ∷ []) (plain _ refl refl) refl (plain_even x [] (x ∷ []) (plain_word x w is) refl refl))
 
 mutual
-  pub class_even : {ts : List Lexeme} {c : NameClass written} → IsClass ts c → Balanced ts
+  pub class_even : {ts : List Lexeme} {c : NameClassAt written} → IsClass ts c → Balanced ts
   class_even (name_classes.basic_class p) = basic_even p
   class_even {ts} (name_classes.choice_class {a = a} {b = b} p q e f) = join_even a b ts e (basic_even p) (more_classes_even q)
   class_even {ts} (name_classes.any_except {n = n} {a = a} may p e) = join_even n (sign Star ∷ sign Minus ∷ a) ts e (annotation_even may)
@@ -237,15 +237,15 @@ mutual
       (plain_even (ns_name w) (sign Minus ∷ a) (ns_name w ∷ sign Minus ∷ a) (plain _ refl refl) refl
       (plain_even (sign Minus) a (sign Minus ∷ a) (plain _ refl refl) refl (basic_even p)))
 
-  pub more_classes_even : {ts : List Lexeme} {cs : List (NameClass written)} → AreMoreClasses ts cs → Balanced ts
+  pub more_classes_even : {ts : List Lexeme} {cs : List (NameClassAt written)} → AreMoreClasses ts cs → Balanced ts
   more_classes_even {ts} (name_classes.last_class {a = a} p e) = plain_even (sign Bar) a ts (plain _ refl refl) e (basic_even p)
   more_classes_even {ts} (name_classes.more_classes {a = a} {b = b} p q e) = plain_even (sign Bar) (a ++ b) ts (plain _ refl refl) e
       (join_even a b (a ++ b) refl (basic_even p) (more_classes_even q))
 
-  pub basic_even : {ts : List Lexeme} {c : NameClass written} → IsBasic ts c → Balanced ts
+  pub basic_even : {ts : List Lexeme} {c : NameClassAt written} → IsBasic ts c → Balanced ts
   basic_even {ts} (name_classes.annotated_basic {n = n} {a = a} may p e) = join_even n a ts e (annotation_even may) (bare_basic_even p)
 
-  pub bare_basic_even : {ts : List Lexeme} {c : NameClass written} → IsBareBasic ts c → Balanced ts
+  pub bare_basic_even : {ts : List Lexeme} {c : NameClassAt written} → IsBareBasic ts c → Balanced ts
   bare_basic_even {ts} (name_classes.word_class {x = x} {w = w} is e) = plain_even x [] ts (plain_word x w is) e refl
   bare_basic_even (name_classes.cname_class e) = subst Balanced (sym e) refl
   bare_basic_even (name_classes.ns_class e) = subst Balanced (sym e) refl
@@ -253,7 +253,7 @@ mutual
   bare_basic_even {ts} (name_classes.class_in_parens {a = a} p e) = bracket_even _ _ a ts parens e (class_even p)
 
 mutual
-  pub pattern_even : {ts : List Lexeme} {t : Pattern written} → IsPattern ts t → Balanced ts
+  pub pattern_even : {ts : List Lexeme} {t : PatternAt written} → IsPattern ts t → Balanced ts
   pattern_even (grammar.one_particle p) = particle_even p
   pattern_even {ts} (grammar.particles {a = a} {b = b} {s = s} {k = k} is p q e f) = join_even a b ts e (particle_even p) (more_even q k is)
   pattern_even {ts} (grammar.data_except {n = n} {a = a} {b = b} {d = d} x may is p q e) =
@@ -261,21 +261,21 @@ mutual
       (plain_even x (a ++ sign Minus ∷ b) (x ∷ (a ++ sign Minus ∷ b)) (plain_type x d is) refl (join_even a (sign Minus ∷ b) (a ++ sign Minus ∷ b) refl
       (may_parameters_even p) (plain_even (sign Minus) b (sign Minus ∷ b) (plain _ refl refl) refl (primary_even q))))
 
-  pub more_even : {s : Sign} {ts : List Lexeme} {us : List (Pattern written)} → AreMore s ts us → (k : Connector) → connector_of s ≡ Some k → Balanced ts
+  pub more_even : {s : Sign} {ts : List Lexeme} {us : List (PatternAt written)} → AreMore s ts us → (k : Connector) → connector_of s ≡ Some k → Balanced ts
   more_even {s} {ts} (grammar.last_particle {a = a} p e) k is = plain_even (sign s) a ts (plain_connector s k is) e (particle_even p)
   more_even {s} {ts} (grammar.more_particles {a = a} {b = b} p q e) k is = plain_even (sign s) (a ++ b) ts (plain_connector s k is) e
       (join_even a b (a ++ b) refl (particle_even p) (more_even q k is))
 
-  pub particle_even : {ts : List Lexeme} {t : Pattern written} → IsParticle ts t → Balanced ts
+  pub particle_even : {ts : List Lexeme} {t : PatternAt written} → IsParticle ts t → Balanced ts
   particle_even (grammar.once p) = primary_even p
   particle_even {ts} (grammar.optional {a = a} p e) = join_even a (sign Question ∷ []) ts e (primary_even p) refl
   particle_even {ts} (grammar.zero_or_more {a = a} p e) = join_even a (sign Star ∷ []) ts e (primary_even p) refl
   particle_even {ts} (grammar.one_or_more {a = a} p e) = join_even a (sign Plus ∷ []) ts e (primary_even p) refl
 
-  pub primary_even : {ts : List Lexeme} {t : Pattern written} → IsPrimary ts t → Balanced ts
+  pub primary_even : {ts : List Lexeme} {t : PatternAt written} → IsPrimary ts t → Balanced ts
   primary_even {ts} (grammar.annotated_primary {n = n} {a = a} may p e) = join_even n a ts e (annotation_even may) (bare_primary_even p)
 
-  pub bare_primary_even : {ts : List Lexeme} {t : Pattern written} → IsBarePrimary ts t → Balanced ts
+  pub bare_primary_even : {ts : List Lexeme} {t : PatternAt written} → IsBarePrimary ts t → Balanced ts
   bare_primary_even {ts} (grammar.element {a = a} {b = b} p q e) = plain_even _ (a ++ b) ts (plain _ refl refl) e
       (join_even a b (a ++ b) refl (class_even p) (braced_even q))
   bare_primary_even {ts} (grammar.attribute {a = a} {b = b} p q e) = plain_even _ (a ++ b) ts (plain _ refl refl) e
@@ -296,17 +296,17 @@ mutual
       (bracket_even _ _ a (sign OpenBrace ∷ (a ++ sign CloseBrace ∷ [])) braces refl (components_even p))
   bare_primary_even {ts} (grammar.in_parens {a = a} p e) = bracket_even _ _ a ts parens e (pattern_even p)
 
-  pub braced_even : {ts : List Lexeme} {t : Pattern written} → IsBraced ts t → Balanced ts
+  pub braced_even : {ts : List Lexeme} {t : PatternAt written} → IsBraced ts t → Balanced ts
   braced_even {ts} (grammar.in_braces {a = a} p e) = bracket_even _ _ a ts braces e (pattern_even p)
 
-  pub components_even : {w : Setting} {ts : List Lexeme} {cs : List (Component written)} → AreComponents w ts cs → Balanced ts
+  pub components_even : {w : Setting} {ts : List Lexeme} {cs : List (ComponentAt written)} → AreComponents w ts cs → Balanced ts
   components_even (grammar.no_components e) = subst Balanced (sym e) refl
   components_even {w} {ts} (grammar.and_component {a = a} {b = b} p q e) = join_even a b ts e (component_even p) (components_even q)
 
-  pub component_even : {w : Setting} {ts : List Lexeme} {c : Component written} → IsComponent w ts c → Balanced ts
+  pub component_even : {w : Setting} {ts : List Lexeme} {c : ComponentAt written} → IsComponent w ts c → Balanced ts
   component_even {w} {ts} (grammar.annotated_component {n = n} {a = a} may p e) = join_even n a ts e (annotation_even may) (bare_component_even p)
 
-  pub bare_component_even : {w : Setting} {ts : List Lexeme} {c : Component written} → IsBareComponent w ts c → Balanced ts
+  pub bare_component_even : {w : Setting} {ts : List Lexeme} {c : ComponentAt written} → IsBareComponent w ts c → Balanced ts
   bare_component_even {w} {ts} (grammar.start {a = a} {x = x} {m = m} is p e) = plain_even _ (x ∷ a) ts (plain _ refl refl) e
       (plain_even x a (x ∷ a) (plain_method x m is) refl (pattern_even p))
   bare_component_even {w} {ts} (grammar.define {a = a} {x = x} {m = m} is p e) = plain_even _ (x ∷ a) ts (plain _ refl refl) e
@@ -316,7 +316,7 @@ mutual
   bare_component_even {w} {ts} (grammar.include {a = a} {b = b} {o = o} w-is p q r e f) = plain_even _ (a ++ (b ++ o)) ts (plain _ refl refl) e
       (join_even a (b ++ o) (a ++ (b ++ o)) refl (literal_even p) (join_even b o (b ++ o) refl (may_inherit_even q) (overrides_even r)))
 
-  pub overrides_even : {ts : List Lexeme} {cs : List (Component written)} → MayOverride ts cs → Balanced ts
+  pub overrides_even : {ts : List Lexeme} {cs : List (ComponentAt written)} → MayOverride ts cs → Balanced ts
   overrides_even (grammar.without_overrides e) = subst Balanced (sym e) refl
   overrides_even {ts} (grammar.with_overrides {a = a} p e) = bracket_even _ _ a ts braces e (components_even p)
 

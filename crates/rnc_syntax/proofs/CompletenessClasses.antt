@@ -4,7 +4,7 @@ use Rattle.std.proofs.lemmas.List.{length-append}
 use Rattle.rnc_model.specs.declared.token.Sign.TheVariants.{Bar, Star, Minus, OpenParenthesis, CloseParenthesis}
 use Rattle.rnc_model.specs.tokens.Cut.{Lexeme, keyword, identifier, cname, ns_name, sign}
 use Rattle.rnc_model.specs.grammar.Syntax as syntax
-use Rattle.rnc_model.specs.grammar.Syntax.{written, NameClass}
+use Rattle.rnc_model.specs.grammar.Syntax.{written, NameClassAt}
 use Rattle.rnc_model.specs.grammar.NameClasses as grammar
 use Rattle.rnc_model.specs.grammar.NameClasses.{word_of, IsClass, AreMoreClasses, IsBasic, IsBareBasic}
 use Rattle.rnc_syntax.specs.plain.Combinators.{Outcome, follow, after, many}
@@ -14,16 +14,16 @@ use Rattle.rnc_syntax.proofs.Balance.{plain, parens, first_within, second_within
 use Rattle.rnc_syntax.proofs.CompletenessAnnotations.{StandsAlone, annotated_parts, annotated_behind, annotated_read}
 use Rattle.rnc_syntax.proofs.Completeness.{Manys, manys_end, manys_more, manys_read}
 
-abbrev bare_basics : ℕ → List Lexeme → Outcome (NameClass written)
+abbrev bare_basics : ℕ → List Lexeme → Outcome (NameClassAt written)
 bare_basics n = bare_basic_with (inside_at n).class
 
-abbrev pub basics : ℕ → List Lexeme → Outcome (NameClass written)
+abbrev pub basics : ℕ → List Lexeme → Outcome (NameClassAt written)
 basics n = basic_with (inside_at n).class
 
-abbrev bare_classes : ℕ → List Lexeme → Outcome (NameClass written)
+abbrev bare_classes : ℕ → List Lexeme → Outcome (NameClassAt written)
 bare_classes n = bare_class_with (inside_at n).class
 
-abbrev pub classes : ℕ → List Lexeme → Outcome (NameClass written)
+abbrev pub classes : ℕ → List Lexeme → Outcome (NameClassAt written)
 classes n = class_with (inside_at n).class
 
 basic_alone : (n : ℕ) → StandsAlone (bare_basics n)
@@ -53,7 +53,7 @@ any_basic : (n : ℕ) (rest : List Lexeme) → bare_basics n (sign Star ∷ rest
 unfolding bare_basic_with
 any_basic n rest = refl
 
-parens_basic : (n : ℕ) (a rest : List Lexeme) (c : NameClass written) → classes n (a ++ (sign CloseParenthesis ∷ rest)) ≡ Ok (c, sign CloseParenthesis ∷ rest)
+parens_basic : (n : ℕ) (a rest : List Lexeme) (c : NameClassAt written) → classes n (a ++ (sign CloseParenthesis ∷ rest)) ≡ Ok (c, sign CloseParenthesis ∷ rest)
     → bare_basics (suc n) ((sign OpenParenthesis ∷ (a ++ sign CloseParenthesis ∷ [])) ++ rest) ≡ Ok (c, rest)
 unfolding bare_basic_with class_in_parens inside_at after
 parens_basic n a rest c body = rw (append_assoc a (sign CloseParenthesis ∷ []) rest, body) refl
@@ -69,40 +69,40 @@ star_no_except rest e = rw e refl
 ns_no_except : (p : List ℕ) (rest : List Lexeme) → follow Minus rest ≡ None → except_front (ns_name p ∷ rest) ≡ None
 ns_no_except p rest e = rw e refl
 
-no_except : {ts : List Lexeme} {c : NameClass written} → IsBareBasic ts c → (rest : List Lexeme) → follow Minus rest ≡ None → except_front (ts ++ rest) ≡ None
+no_except : {ts : List Lexeme} {c : NameClassAt written} → IsBareBasic ts c → (rest : List Lexeme) → follow Minus rest ≡ None → except_front (ts ++ rest) ≡ None
 no_except (grammar.word_class {x = x} {w = w} is e) rest m = rw e (word_no_except x w rest is)
 no_except (grammar.cname_class e) rest m = rw e refl
 no_except (grammar.ns_class {p = p} e) rest m = rw e (ns_no_except p rest m)
 no_except (grammar.any_class e) rest m = rw e (star_no_except rest m)
 no_except (grammar.class_in_parens p e) rest m = rw e refl
 
-begins : {ts : List Lexeme} {cs : List (NameClass written)} → AreMoreClasses ts cs → (us : List Lexeme) × (ts ≡ sign Bar ∷ us)
+begins : {ts : List Lexeme} {cs : List (NameClassAt written)} → AreMoreClasses ts cs → (us : List Lexeme) × (ts ≡ sign Bar ∷ us)
 begins (grammar.last_class {a = a} p e) = (a, e)
 begins (grammar.more_classes {a = a} {b = b} p q e) = (a ++ b, e)
 
-alone_read : (n : ℕ) (ts rest : List Lexeme) (c : NameClass written) → except_front ts ≡ None → follow Bar rest ≡ None → bare_basics n ts ≡ Ok (c, rest)
+alone_read : (n : ℕ) (ts rest : List Lexeme) (c : NameClassAt written) → except_front ts ≡ None → follow Bar rest ≡ None → bare_basics n ts ≡ Ok (c, rest)
     → bare_classes n ts ≡ Ok (c, rest)
 unfolding bare_class_with choice_with
 alone_read n ts rest c except bar one = rw (except, one, bar) refl
 
-choice_read : (n : ℕ) (ts us vs rest : List Lexeme) (c : NameClass written) (cs : List (NameClass written)) → except_front ts ≡ None
+choice_read : (n : ℕ) (ts us vs rest : List Lexeme) (c : NameClassAt written) (cs : List (NameClassAt written)) → except_front ts ≡ None
     → bare_basics n ts ≡ Ok (c, us)
     → follow Bar us ≡ Some vs → many (follow Bar) (basics n) us ≡ Ok (cs, rest) → bare_classes n ts ≡ Ok (syntax.choice_of (c ∷ cs), rest)
 unfolding bare_class_with choice_with
 choice_read n ts us vs rest c cs except one bar others = rw (except, one, bar, others) refl
 
-any_except_read : (n : ℕ) (ts rest : List Lexeme) (c : NameClass written) → basics n ts ≡ Ok (c, rest) → bare_classes n (sign Star ∷ sign Minus ∷ ts) ≡ Ok
+any_except_read : (n : ℕ) (ts rest : List Lexeme) (c : NameClassAt written) → basics n ts ≡ Ok (c, rest) → bare_classes n (sign Star ∷ sign Minus ∷ ts) ≡ Ok
     (syntax.any_except c, rest)
 unfolding bare_class_with
 any_except_read n ts rest c one = rw one refl
 
-ns_except_read : (n : ℕ) (p : List ℕ) (ts rest : List Lexeme) (c : NameClass written) → basics n ts ≡ Ok (c, rest)
+ns_except_read : (n : ℕ) (p : List ℕ) (ts rest : List Lexeme) (c : NameClassAt written) → basics n ts ≡ Ok (c, rest)
     → bare_classes n (ns_name p ∷ sign Minus ∷ ts) ≡ Ok
     (syntax.ns_except p c, rest)
 unfolding bare_class_with
 ns_except_read n p ts rest c one = rw one refl
 
-more_read : (n : ℕ) (ts a b rest end : List Lexeme) (c : NameClass written) (cs : List (NameClass written)) → ts ≡ sign Bar ∷ (a ++ b)
+more_read : (n : ℕ) (ts a b rest end : List Lexeme) (c : NameClassAt written) (cs : List (NameClassAt written)) → ts ≡ sign Bar ∷ (a ++ b)
     → basics n (a ++ (b ++ rest)) ≡ Ok (c, b ++ rest) → Manys (follow Bar) (basics n) (b ++ rest) cs end → Manys (follow Bar) (basics n) (ts ++ rest) (c ∷ cs)
     end
 more_read n ts a b rest end c cs e one others =
@@ -112,7 +112,7 @@ more_read n ts a b rest end c cs e one others =
     subst (λ (us : List Lexeme). Manys (follow Bar) (basics n) us (c ∷ cs) end) (sym parts)
     (manys_more (follow Bar) (basics n) (sign Bar ∷ (a ++ (b ++ rest))) (a ++ (b ++ rest)) (b ++ rest) end c cs refl one shorter others)
 
-last_read : (n : ℕ) (ts a rest : List Lexeme) (c : NameClass written) → ts ≡ sign Bar ∷ a → basics n (a ++ rest) ≡ Ok (c, rest) → follow Bar rest ≡ None
+last_read : (n : ℕ) (ts a rest : List Lexeme) (c : NameClassAt written) → ts ≡ sign Bar ∷ a → basics n (a ++ rest) ≡ Ok (c, rest) → follow Bar rest ≡ None
     → Manys (follow Bar) (basics n) (ts ++ rest) (c ∷ []) rest
 last_read n ts a rest c e one bar =
     let shorter : length rest < length (sign Bar ∷ (a ++ rest)) = omega (arith, length-append a rest) in
@@ -132,7 +132,7 @@ two_parts ts note a b c rest e f = ap (λ (ts : List Lexeme). ts ++ rest) e ∙ 
 mutual
   unfolding class_with basic_with
 
-  pub class_complete : {ts : List Lexeme} {c : NameClass written} → IsClass ts c → (n : ℕ) → NestsWithin n ts → (rest : List Lexeme) → follow Bar rest ≡ None
+  pub class_complete : {ts : List Lexeme} {c : NameClassAt written} → IsClass ts c → (n : ℕ) → NestsWithin n ts → (rest : List Lexeme) → follow Bar rest ≡ None
       → follow Minus rest ≡ None → classes n (ts ++ rest) ≡ Ok (c, rest)
   class_complete {ts} {c} (grammar.basic_class (grammar.annotated_basic {n = note} {a = a} may p e)) n nest rest bar minus =
       annotated_read (bare_classes n) (class_alone n) may ts a rest c e (alone_read n (a ++ rest) rest c (no_except p rest minus) bar
@@ -143,7 +143,7 @@ mutual
       let nest_a = first_within n ts a b e nest in
       let one = bare_basic_complete p n (second_within n a note x f (annotation_even may) nest_a) (b ++ rest) in
       let others = more_classes_complete q n (second_within n ts a b e (basic_even (grammar.annotated_basic may p f)) nest) rest bar in
-      subst (λ (d : NameClass written). classes n (ts ++ rest) ≡ Ok (d, rest)) (sym g)
+      subst (λ (d : NameClassAt written). classes n (ts ++ rest) ≡ Ok (d, rest)) (sym g)
       (subst (λ (us : List Lexeme). classes n us ≡ Ok (syntax.choice_of (c ∷ cs), rest)) (sym (two_parts ts note a b x rest e f))
       (annotated_behind (bare_classes n) (class_alone n) may (x ++ (b ++ rest)) (syntax.choice_of (c ∷ cs), rest)
       (choice_read n (x ++ (b ++ rest)) (b ++ rest) (h.0 ++ rest) rest c cs (no_except p (b ++ rest) (no_minus b rest h.0 h.1)) one
@@ -161,7 +161,7 @@ mutual
       annotated_read (bare_classes n) (class_alone n) may ts (ns_name x ∷ sign Minus ∷ a) rest (syntax.ns_except x c) e
       (ns_except_read n x (a ++ rest) rest c (basic_complete p n inner rest))
 
-  more_classes_complete : {ts : List Lexeme} {cs : List (NameClass written)} → AreMoreClasses ts cs → (n : ℕ) → NestsWithin n ts → (rest : List Lexeme)
+  more_classes_complete : {ts : List Lexeme} {cs : List (NameClassAt written)} → AreMoreClasses ts cs → (n : ℕ) → NestsWithin n ts → (rest : List Lexeme)
       → follow Bar rest ≡ None → Manys (follow Bar) (basics n) (ts ++ rest) cs rest
   more_classes_complete {ts} (grammar.last_class {a = a} {c = c} p e) n nest rest bar =
       last_read n ts a rest c e (basic_complete p n (behind_within n ts (sign Bar) a e (plain _ refl refl) nest) rest) bar
@@ -170,12 +170,12 @@ mutual
       more_read n ts a b rest rest c cs e (basic_complete p n (first_within n (a ++ b) a b refl inner) (b ++ rest))
       (more_classes_complete q n (second_within n (a ++ b) a b refl (basic_even p) inner) rest bar)
 
-  basic_complete : {ts : List Lexeme} {c : NameClass written} → IsBasic ts c → (n : ℕ) → NestsWithin n ts → (rest : List Lexeme)
+  basic_complete : {ts : List Lexeme} {c : NameClassAt written} → IsBasic ts c → (n : ℕ) → NestsWithin n ts → (rest : List Lexeme)
       → basics n (ts ++ rest) ≡ Ok (c, rest)
   basic_complete {ts} {c} (grammar.annotated_basic {n = note} {a = a} may p e) n nest rest =
       annotated_read (bare_basics n) (basic_alone n) may ts a rest c e (bare_basic_complete p n (second_within n ts note a e (annotation_even may) nest) rest)
 
-  bare_basic_complete : {ts : List Lexeme} {c : NameClass written} → IsBareBasic ts c → (n : ℕ) → NestsWithin n ts → (rest : List Lexeme)
+  bare_basic_complete : {ts : List Lexeme} {c : NameClassAt written} → IsBareBasic ts c → (n : ℕ) → NestsWithin n ts → (rest : List Lexeme)
       → bare_basics n (ts ++ rest) ≡ Ok (c, rest)
   bare_basic_complete (grammar.word_class {x = x} {w = w} is e) n nest rest = rw e (word_basic n x w rest is)
   bare_basic_complete (grammar.cname_class {p = p} {l = l} e) n nest rest = rw e (cname_basic n p l rest)

@@ -9,7 +9,7 @@ use Rattle.rnc_model.specs.declared.token.Sign.TheVariants.{Tilde}
 use Rattle.rnc_syntax.specs.declared.fault.Stop.{Stop}
 use Rattle.rnc_model.specs.tokens.Cut.{Lexeme, Spelling, keyword, identifier, cname, segment, sign}
 use Rattle.rnc_model.specs.grammar.Syntax as syntax
-use Rattle.rnc_model.specs.grammar.Syntax.{written, DatatypeName, Pattern, Component, Uri, Declaration, Body, File}
+use Rattle.rnc_model.specs.grammar.Syntax.{written, DatatypeName, PatternAt, ComponentAt, Uri, Declaration, Body, File}
 use Rattle.rnc_model.specs.grammar.Grammar as grammar
 use Rattle.rnc_model.specs.grammar.NameClasses as name_classes
 use Rattle.rnc_model.specs.grammar.Grammar.{content, IsPattern, IsParticle, IsPrimary}
@@ -173,7 +173,7 @@ typed_body _ d r e = absurd cc
 segment_body : (w : List ℕ) (us ts r : List Lexeme) → ts ≡ segment w ∷ us → NoDeclaration (ts ++ r)
 segment_body w us ts r e = rw e (record { no_tilde = refl; none = refl })
 
-bare_primary_body : {ts : List Lexeme} {t : Pattern written} → IsBarePrimary ts t → (r : List Lexeme) → NoDeclaration (ts ++ r)
+bare_primary_body : {ts : List Lexeme} {t : PatternAt written} → IsBarePrimary ts t → (r : List Lexeme) → NoDeclaration (ts ++ r)
 bare_primary_body (grammar.element p q e) r = rw e (record { no_tilde = refl; none = refl })
 bare_primary_body (grammar.attribute p q e) r = rw e (record { no_tilde = refl; none = refl })
 bare_primary_body (grammar.list p e) r = rw e (record { no_tilde = refl; none = refl })
@@ -194,31 +194,31 @@ annotation_body : {note : List Lexeme} → MayBeAnnotation note → (ts a r : Li
 annotation_body (name_classes.without_annotation f) ts a r e b = rw (e, f) b
 annotation_body (name_classes.with_annotation p f) ts a r e b = rw (e, f) (record { no_tilde = refl; none = refl })
 
-primary_body : {ts : List Lexeme} {t : Pattern written} → IsPrimary ts t → (r : List Lexeme) → NoDeclaration (ts ++ r)
+primary_body : {ts : List Lexeme} {t : PatternAt written} → IsPrimary ts t → (r : List Lexeme) → NoDeclaration (ts ++ r)
 primary_body {ts} (grammar.annotated_primary {a = a} may p e) r = annotation_body may ts a r e (bare_primary_body p r)
 
-particle_body : {ts : List Lexeme} {t : Pattern written} → IsParticle ts t → (r : List Lexeme) → NoDeclaration (ts ++ r)
+particle_body : {ts : List Lexeme} {t : PatternAt written} → IsParticle ts t → (r : List Lexeme) → NoDeclaration (ts ++ r)
 particle_body (grammar.once p) r = primary_body p r
 particle_body (grammar.optional {a = a} p e) r = rw (e, append_assoc a (sign Question ∷ []) r) (primary_body p (sign Question ∷ r))
 particle_body (grammar.zero_or_more {a = a} p e) r = rw (e, append_assoc a (sign Star ∷ []) r) (primary_body p (sign Star ∷ r))
 particle_body (grammar.one_or_more {a = a} p e) r = rw (e, append_assoc a (sign Plus ∷ []) r) (primary_body p (sign Plus ∷ r))
 
-pattern_body : {ts : List Lexeme} {t : Pattern written} → IsPattern ts t → NoDeclaration (ts ++ [])
+pattern_body : {ts : List Lexeme} {t : PatternAt written} → IsPattern ts t → NoDeclaration (ts ++ [])
 pattern_body (grammar.one_particle p) = particle_body p []
 pattern_body (grammar.particles {a = a} {b = b} is p q e g) = rw (e, append_assoc a b []) (particle_body p (b ++ []))
 pattern_body {ts} (grammar.data_except {a = a} {b = b} {d = d} x may is p q e) =
     annotation_body may ts (x ∷ (a ++ sign Minus ∷ b)) [] e (typed_body x d ((a ++ sign Minus ∷ b) ++ []) is)
 
-bare_component_body : {ts : List Lexeme} {c : Component written} → IsBareComponent content ts c → (r : List Lexeme) → NoDeclaration (ts ++ r)
+bare_component_body : {ts : List Lexeme} {c : ComponentAt written} → IsBareComponent content ts c → (r : List Lexeme) → NoDeclaration (ts ++ r)
 bare_component_body (grammar.start is p e) r = rw e (record { no_tilde = refl; none = refl })
 bare_component_body (grammar.define is p e) r = rw e (record { no_tilde = refl; none = refl })
 bare_component_body (grammar.div p e g) r = rw e (record { no_tilde = refl; none = refl })
 bare_component_body (grammar.include is p q o e g) r = rw e (record { no_tilde = refl; none = refl })
 
-component_body : {ts : List Lexeme} {c : Component written} → IsComponent content ts c → (r : List Lexeme) → NoDeclaration (ts ++ r)
+component_body : {ts : List Lexeme} {c : ComponentAt written} → IsComponent content ts c → (r : List Lexeme) → NoDeclaration (ts ++ r)
 component_body {ts} (grammar.annotated_component {a = a} may p e) r = annotation_body may ts a r e (bare_component_body p r)
 
-components_body : {ts : List Lexeme} {cs : List (Component written)} → AreComponents content ts cs → NoDeclaration (ts ++ [])
+components_body : {ts : List Lexeme} {cs : List (ComponentAt written)} → AreComponents content ts cs → NoDeclaration (ts ++ [])
 components_body (grammar.no_components e) = rw e (record { no_tilde = refl; none = refl })
 components_body (grammar.and_component {a = a} {b = b} p q e) = rw (e, append_assoc a b []) (component_body p (b ++ []))
 
@@ -228,11 +228,11 @@ body_begins (grammar.grammar_body p e) = components_body p
 
 -- ---- a grammar or a pattern
 
-left_over : (t u : Pattern written) (x : Lexeme) (ts : List Lexeme) → ◌≡◌ {A = Outcome (Pattern written)} (Ok (t, x ∷ ts)) (Ok (u, [])) → ⊥
-left_over t u x ts e = let q : x ∷ ts ≡ [] = ap (λ (y : Pattern written × List Lexeme). y.1) (ok_is (t, x ∷ ts) (u, []) e) in absurd cc
+left_over : (t u : PatternAt written) (x : Lexeme) (ts : List Lexeme) → ◌≡◌ {A = Outcome (PatternAt written)} (Ok (t, x ∷ ts)) (Ok (u, [])) → ⊥
+left_over t u x ts e = let q : x ∷ ts ≡ [] = ap (λ (y : PatternAt written × List Lexeme). y.1) (ok_is (t, x ∷ ts) (u, []) e) in absurd cc
 
 -- tokens that are read as one pattern to their end do not begin a grammar
-pattern_no_grammar : (n : ℕ) (us : List Lexeme) (t : Pattern written) (b : Bool) → bare_pattern_with (inside_at n) us ≡ Ok (t, [])
+pattern_no_grammar : (n : ℕ) (us : List Lexeme) (t : PatternAt written) (b : Bool) → bare_pattern_with (inside_at n) us ≡ Ok (t, [])
     → is_grammar_body b us ≡ false
 unfolding bare_pattern_with bare_primary_with atom_at other_at rest_with
 pattern_no_grammar n [] t b e = absurd cc
@@ -251,36 +251,36 @@ name_is_grammar (sign BarEqual) m n b r e = refl
 name_is_grammar (sign AndEqual) m n b r e = refl
 name_is_grammar _ m n b r e = absurd cc
 
-component_is_grammar : {ts : List Lexeme} {c : Component written} → IsBareComponent content ts c → (b : Bool) (r : List Lexeme)
+component_is_grammar : {ts : List Lexeme} {c : ComponentAt written} → IsBareComponent content ts c → (b : Bool) (r : List Lexeme)
     → is_grammar_body b (ts ++ r) ≡ true
 component_is_grammar (grammar.start is p e) b r = rw e refl
 component_is_grammar (grammar.define {a = a} {x = x} {n = n} {m = m} is p e) b r = rw e (name_is_grammar x m n b (a ++ r) is)
 component_is_grammar (grammar.div p e g) b r = rw e refl
 component_is_grammar (grammar.include is p q o e g) b r = rw e refl
 
-component_no_bracket : {ts : List Lexeme} {c : Component written} → IsBareComponent content ts c → (r : List Lexeme) → follow OpenBracket (ts ++ r) ≡ None
+component_no_bracket : {ts : List Lexeme} {c : ComponentAt written} → IsBareComponent content ts c → (r : List Lexeme) → follow OpenBracket (ts ++ r) ≡ None
 component_no_bracket (grammar.start is p e) r = rw e refl
 component_no_bracket (grammar.define is p e) r = rw e refl
 component_no_bracket (grammar.div p e g) r = rw e refl
 component_no_bracket (grammar.include is p q o e g) r = rw e refl
 
 module _ (n : ℕ) where
-  bare_pattern_read : (us : List Lexeme) (t : Pattern written) → bare_pattern_with (inside_at n) us ≡ Ok (t, [])
+  bare_pattern_read : (us : List Lexeme) (t : PatternAt written) → bare_pattern_with (inside_at n) us ≡ Ok (t, [])
       → bare_body_with (inside_at n) us ≡ Ok (syntax.pattern_body t, [])
   unfolding bare_body_with
   bare_pattern_read us t e = let none = pattern_no_grammar n us t true e in rw (none, e) refl
 
-  annotated_pattern_read : (us : List Lexeme) (t : Pattern written) → bare_pattern_with (inside_at n) us ≡ Ok (t, [])
+  annotated_pattern_read : (us : List Lexeme) (t : PatternAt written) → bare_pattern_with (inside_at n) us ≡ Ok (t, [])
       → annotated_body_with (inside_at n) us ≡ Ok (syntax.pattern_body t, [])
   unfolding annotated_body_with
   annotated_pattern_read us t e = let none = pattern_no_grammar n us t false e in rw (none, e) refl
 
-  bare_grammar_read : (us : List Lexeme) (cs : List (Component written)) → is_grammar_body true us ≡ true
+  bare_grammar_read : (us : List Lexeme) (cs : List (ComponentAt written)) → is_grammar_body true us ≡ true
       → components_with (inside_at n) content us ≡ Ok (cs, []) → bare_body_with (inside_at n) us ≡ Ok (syntax.grammar_body (syntax.components_of cs), [])
   unfolding bare_body_with
   bare_grammar_read us cs is e = rw (is, e) refl
 
-  annotated_grammar_read : (us vs : List Lexeme) (c : Component written) (cs : List (Component written)) → is_grammar_body false us ≡ true
+  annotated_grammar_read : (us vs : List Lexeme) (c : ComponentAt written) (cs : List (ComponentAt written)) → is_grammar_body false us ≡ true
       → bare_component_with (inside_at n) content us ≡ Ok (c, vs) → components_with (inside_at n) content vs ≡ Ok (cs, [])
       → annotated_body_with (inside_at n) us ≡ Ok (syntax.grammar_body (syntax.components_of (c ∷ cs)), [])
   unfolding annotated_body_with
@@ -301,7 +301,7 @@ module _ (n : ℕ) where
   unfolding annotation_at
   annotation_opened us vs some = rw some refl
 
-  pattern_body_by : (us : List Lexeme) (t : Pattern written) (o : Option (List Lexeme)) → follow OpenBracket us ≡ o → pattern_with (inside_at n) us ≡ Ok (t, [])
+  pattern_body_by : (us : List Lexeme) (t : PatternAt written) (o : Option (List Lexeme)) → follow OpenBracket us ≡ o → pattern_with (inside_at n) us ≡ Ok (t, [])
       → body_with (inside_at n) us ≡ Ok (syntax.pattern_body t, [])
   unfolding pattern_with
   pattern_body_by us t None is e =
@@ -313,7 +313,7 @@ module _ (n : ℕ) where
       let a = bind_ok (annotation_end 0 vs) (λ x. bare x.1) (t, []) whole in
       opened_body_read us vs a.0.1 (syntax.pattern_body t) is a.1 (annotated_pattern_read a.0.1 t a.2)
 
-  pattern_body_read : (us : List Lexeme) (t : Pattern written) → pattern_with (inside_at n) us ≡ Ok (t, [])
+  pattern_body_read : (us : List Lexeme) (t : PatternAt written) → pattern_with (inside_at n) us ≡ Ok (t, [])
       → body_with (inside_at n) us ≡ Ok (syntax.pattern_body t, [])
   pattern_body_read us t e = pattern_body_by us t (follow OpenBracket us) refl e
 
@@ -323,7 +323,7 @@ module _ (n : ℕ) where
       (bare_grammar_read (ts ++ []) [] (rw e refl) others)
 
   -- the first component with or without an annotation
-  grammar_body_read : {note : List Lexeme} → MayBeAnnotation note → (us vs : List Lexeme) (c : Component written) (cs : List (Component written))
+  grammar_body_read : {note : List Lexeme} → MayBeAnnotation note → (us vs : List Lexeme) (c : ComponentAt written) (cs : List (ComponentAt written))
       → ((b : Bool) → is_grammar_body b us ≡ true) → follow OpenBracket us ≡ None → components_with (inside_at n) content (note ++ us) ≡ Ok (c ∷ cs, [])
       → bare_component_with (inside_at n) content us ≡ Ok (c, vs) → components_with (inside_at n) content vs ≡ Ok (cs, [])
       → body_with (inside_at n) (note ++ us) ≡ Ok (syntax.grammar_body (syntax.components_of (c ∷ cs)), [])

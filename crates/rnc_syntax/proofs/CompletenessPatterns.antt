@@ -11,7 +11,7 @@ use Rattle.rng_model.specs.declared.method.Method.{Method}
 use Rattle.rng_model.specs.declared.method.Method.TheVariants as methods
 use Rattle.rnc_model.specs.tokens.Cut.{Lexeme, Spelling, keyword, identifier, cname, segment, sign}
 use Rattle.rnc_model.specs.grammar.Syntax as syntax
-use Rattle.rnc_model.specs.grammar.Syntax.{written, NameClass, DatatypeName, Mention, Pattern, Component}
+use Rattle.rnc_model.specs.grammar.Syntax.{written, NameClassAt, DatatypeName, Mention, PatternAt, ComponentAt}
 use Rattle.rnc_model.specs.grammar.Grammar as grammar
 use Rattle.rnc_model.specs.grammar.NameClasses as name_classes
 use Rattle.rnc_model.specs.grammar.Grammar.{Setting, content, override, IsPattern, AreMore}
@@ -46,7 +46,7 @@ pub record FollowsPrimary (rest : List Lexeme) : Type 0 where
 -- what may follow a particle
 pub record FollowsParticle (rest : List Lexeme) : Type 0 where
   pub primary : FollowsPrimary rest
-  pub once : (t : Pattern written) → repeated t rest ≡ (t, rest)
+  pub once : (t : PatternAt written) → repeated t rest ≡ (t, rest)
   pub minus : follow Minus rest ≡ None
 
 -- what may follow a pattern
@@ -148,7 +148,7 @@ follows_start _ r e = absurd cc
 abbrev Starts : List Lexeme → Type 0
 Starts ts = (x : Lexeme) × (r : List Lexeme) × (ts ≡ x ∷ r) × (starts_component x ≡ true)
 
-bare_component_starts : {w : Setting} {ts : List Lexeme} {c : Component written} → IsBareComponent w ts c → Starts ts
+bare_component_starts : {w : Setting} {ts : List Lexeme} {c : ComponentAt written} → IsBareComponent w ts c → Starts ts
 bare_component_starts (grammar.start {a = a} {x = x} {s = s} is p e) = (keyword keywords.Start s, x ∷ a, e, refl)
 bare_component_starts (grammar.define {a = a} {x = x} {n = n} is p e) = (identifier n, x ∷ a, e, refl)
 bare_component_starts (grammar.div {a = a} {s = s} p e f) = (keyword keywords.Div s, sign OpenBrace ∷ (a ++ sign CloseBrace ∷ []), e, refl)
@@ -161,7 +161,7 @@ starts_behind (name_classes.with_annotation {a = c} p f) ts a e s =
     let parts : ts ≡ sign OpenBracket ∷ rest = e ∙ ap (λ (n : List Lexeme). n ++ a) f in
     (sign OpenBracket, rest, parts, refl)
 
-component_starts : {w : Setting} {ts : List Lexeme} {c : Component written} → IsComponent w ts c → Starts ts
+component_starts : {w : Setting} {ts : List Lexeme} {c : ComponentAt written} → IsComponent w ts c → Starts ts
 component_starts {w} {ts} (grammar.annotated_component {a = a} may p e) = starts_behind may ts a e (bare_component_starts p)
 
 follows_components : {rest : List Lexeme} → FollowsComponents rest → FollowsPattern rest
@@ -172,7 +172,7 @@ follows_component_at : (a ts rest : List Lexeme) (x : Lexeme) (r : List Lexeme) 
 follows_component_at a ts rest x r e is = rw e (follows_start x ((r ++ ts) ++ rest) is)
 
 -- more components, or what follows them
-pub more_follow : {w : Setting} {b : List Lexeme} {cs : List (Component written)} → AreComponents w b cs → (rest : List Lexeme) → FollowsComponents rest
+pub more_follow : {w : Setting} {b : List Lexeme} {cs : List (ComponentAt written)} → AreComponents w b cs → (rest : List Lexeme) → FollowsComponents rest
     → FollowsPattern (b ++ rest)
 more_follow (grammar.no_components e) rest f = rw e (follows_components f)
 more_follow (grammar.and_component {a = a} {b = b} p q e) rest f = let s = component_starts p in rw e (follows_component_at a b rest s.0 s.1 s.2 s.3)
@@ -204,7 +204,7 @@ untyped_read n w ts us rest v e p =
     let q : literal_at (segment w ∷ us) ≡ Ok (v, rest) = subst (λ (ts : List Lexeme). literal_at ts ≡ Ok (v, rest)) e p in
     subst (λ (ts : List Lexeme). bare_primary_with (inside_at n) ts ≡ Ok (syntax.value syntax.token_type v, rest)) (sym e) (rw q refl)
 
-typed_read : (n : ℕ) (x : Lexeme) (d : DatatypeName written) (ts rest : List Lexeme) (t : Pattern written) → type_of x ≡ Some d → typed_at d ts ≡ Ok (t, rest)
+typed_read : (n : ℕ) (x : Lexeme) (d : DatatypeName written) (ts rest : List Lexeme) (t : PatternAt written) → type_of x ≡ Some d → typed_at d ts ≡ Ok (t, rest)
     → bare_primary_with (inside_at n) (x ∷ ts) ≡ Ok (t, rest)
 unfolding bare_primary_with atom_at
 typed_read n (cname p l) d ts rest t is e = let q : syntax.prefixed_type p l ≡ d = cc in ap (λ (d : DatatypeName written). typed_at d ts) q ∙ e
@@ -238,7 +238,7 @@ front_segment : (w : List ℕ) (ts us : List Lexeme) → ts ≡ segment w ∷ us
 front_segment w ts us e = rw e (front_other (segment w) us refl)
 
 -- these tokens are the name and the parameters of this datatype, and then `rest`
-abbrev IsDataRead : Pattern written → List Lexeme → List Lexeme → Type 0
+abbrev IsDataRead : PatternAt written → List Lexeme → List Lexeme → Type 0
 IsDataRead t ts rest = (d : DatatypeName written) × (ps : List (List ℕ × List ℕ)) × (us : List Lexeme) × (data_front ts ≡ Some (d, us))
     × (parameters_at us ≡ Ok (ps, rest)) × (t ≡ syntax.data_of d ps)
 
@@ -251,7 +251,7 @@ data_is_read : (x : Lexeme) (d : DatatypeName written) (ts a rest : List Lexeme)
     → begins_segment (a ++ rest) ≡ false → parameters_at (a ++ rest) ≡ Ok (ps, rest) → IsDataRead (syntax.data_of d ps) (ts ++ rest) rest
 data_is_read x d ts a rest ps e is s p = (d, ps, a ++ rest, ap (λ (ts : List Lexeme). data_front (ts ++ rest)) e ∙ front_typed x d (a ++ rest) is s, p, refl)
 
-first_is : {ts : List Lexeme} {t : Pattern written} → IsBarePrimary ts t → (rest : List Lexeme) → FollowsPrimary rest → (data_front (ts ++ rest) ≡ None)
+first_is : {ts : List Lexeme} {t : PatternAt written} → IsBarePrimary ts t → (rest : List Lexeme) → FollowsPrimary rest → (data_front (ts ++ rest) ≡ None)
     ⊎ IsDataRead t (ts ++ rest) rest
 first_is (grammar.element p q e) rest f = inl (other_front _ _ _ rest e refl)
 first_is (grammar.attribute p q e) rest f = inl (other_front _ _ _ rest e refl)
@@ -272,7 +272,7 @@ first_is (grammar.external p q e g) rest f = inl (other_front _ _ _ rest e refl)
 first_is (grammar.grammar p e g) rest f = inl (other_front _ _ _ rest e refl)
 first_is (grammar.in_parens p e) rest f = inl (other_front _ _ _ rest e refl)
 
-first_from : (n : ℕ) (ts rest : List Lexeme) (t : Pattern written) → data_front ts ≡ None → bare_primary_with (inside_at n) ts ≡ Ok (t, rest)
+first_from : (n : ℕ) (ts rest : List Lexeme) (t : PatternAt written) → data_front ts ≡ None → bare_primary_with (inside_at n) ts ≡ Ok (t, rest)
     → bare_pattern_with (inside_at n) ts ≡ pattern_from (inside_at n) t rest
 unfolding bare_pattern_with
 first_from n ts rest t none one = rw (none, one) refl
@@ -283,27 +283,27 @@ unfolding bare_pattern_with data_with
 data_from n ts us rest d ps some params minus = rw (some, params, minus) refl
 
 -- a pattern whose first primary is read
-from_first : (n : ℕ) (ts rest : List Lexeme) (t : Pattern written) → (data_front ts ≡ None) ⊎ IsDataRead t ts rest → follow Minus rest ≡ None
+from_first : (n : ℕ) (ts rest : List Lexeme) (t : PatternAt written) → (data_front ts ≡ None) ⊎ IsDataRead t ts rest → follow Minus rest ≡ None
     → bare_primary_with (inside_at n) ts ≡ Ok (t, rest) → bare_pattern_with (inside_at n) ts ≡ pattern_from (inside_at n) t rest
 from_first n ts rest t (inl none) minus one = first_from n ts rest t none one
 from_first n ts rest t (inr (d, ps, us, front, params, is)) minus one = data_from n ts us rest d ps front params minus
-    ∙ ap (λ (t : Pattern written). pattern_from (inside_at n) t rest) (sym is)
+    ∙ ap (λ (t : PatternAt written). pattern_from (inside_at n) t rest) (sym is)
 
-from_once : (n : ℕ) (rest : List Lexeme) (t : Pattern written) → repeated t rest ≡ (t, rest) → pattern_from (inside_at n) t rest ≡ rest_with (inside_at n) t
+from_once : (n : ℕ) (rest : List Lexeme) (t : PatternAt written) → repeated t rest ≡ (t, rest) → pattern_from (inside_at n) t rest ≡ rest_with (inside_at n) t
     (separator_of rest) rest
-from_once n rest t e = ap (λ (x : Pattern written × List Lexeme). rest_with (inside_at n) x.0 (separator_of x.1) x.1) e
+from_once n rest t e = ap (λ (x : PatternAt written × List Lexeme). rest_with (inside_at n) x.0 (separator_of x.1) x.1) e
 
-except_read : (n : ℕ) (x : Lexeme) (d : DatatypeName written) (ts us rest : List Lexeme) (ps : List (List ℕ × List ℕ)) (t : Pattern written)
+except_read : (n : ℕ) (x : Lexeme) (d : DatatypeName written) (ts us rest : List Lexeme) (ps : List (List ℕ × List ℕ)) (t : PatternAt written)
     → data_front (x ∷ ts) ≡ Some (d, ts) → parameters_at ts ≡ Ok (ps, sign Minus ∷ us) → primary_with (inside_at n) us ≡ Ok (t, rest)
     → bare_pattern_with (inside_at n) (x ∷ ts) ≡ Ok (syntax.data_except d ps t, rest)
 unfolding bare_pattern_with data_with
 except_read n x d ts us rest ps t front params one = rw (front, params, one) refl
 
-ended_read : (n : ℕ) (rest : List Lexeme) (t : Pattern written) → separator_of rest ≡ None → rest_with (inside_at n) t (separator_of rest) rest ≡ Ok (t, rest)
+ended_read : (n : ℕ) (rest : List Lexeme) (t : PatternAt written) → separator_of rest ≡ None → rest_with (inside_at n) t (separator_of rest) rest ≡ Ok (t, rest)
 unfolding rest_with
 ended_read n rest t e = rw e refl
 
-joined_is : (s : Sign) (k : Connector) (ts : List (Pattern written)) → connector_of s ≡ Some k → joined s ts ≡ syntax.members k ts
+joined_is : (s : Sign) (k : Connector) (ts : List (PatternAt written)) → connector_of s ≡ Some k → joined s ts ≡ syntax.members k ts
 joined_is Comma k ts e = let q : group ≡ k = cc in ap (λ (k : Connector). syntax.members k ts) q
 joined_is And k ts e = let q : interleave ≡ k = cc in ap (λ (k : Connector). syntax.members k ts) q
 joined_is Bar k ts e = let q : choice ≡ k = cc in ap (λ (k : Connector). syntax.members k ts) q
@@ -330,25 +330,25 @@ no_sign Bar k (sign Bar ∷ ts) e f = absurd cc
 no_sign Bar k _ e f = refl
 no_sign _ k rest e f = absurd cc
 
-joined_read : (n : ℕ) (s : Sign) (k : Connector) (b rest : List Lexeme) (t : Pattern written) (us : List (Pattern written)) → connector_of s ≡ Some k
+joined_read : (n : ℕ) (s : Sign) (k : Connector) (b rest : List Lexeme) (t : PatternAt written) (us : List (PatternAt written)) → connector_of s ≡ Some k
     → separator_of (b ++ rest) ≡ Some s → many (follow s) (particle_with (inside_at n)) (b ++ rest) ≡ Ok (us, rest)
     → rest_with (inside_at n) t (separator_of (b ++ rest)) (b ++ rest) ≡ Ok (syntax.members k (t ∷ us), rest)
 unfolding rest_with
 joined_read n s k b rest t us connects is others = rw (is, others, joined_is s k (t ∷ us) connects) refl
 
-pub more_begin : {s : Sign} {ts : List Lexeme} {us : List (Pattern written)} → AreMore s ts us → (c : List Lexeme) × (ts ≡ sign s ∷ c)
+pub more_begin : {s : Sign} {ts : List Lexeme} {us : List (PatternAt written)} → AreMore s ts us → (c : List Lexeme) × (ts ≡ sign s ∷ c)
 more_begin (grammar.last_particle {a = a} p e) = (a, e)
 more_begin (grammar.more_particles {a = a} {b = b} p q e) = (a ++ b, e)
 
 follows_more : (s : Sign) (k : Connector) (b rest c : List Lexeme) → connector_of s ≡ Some k → b ≡ sign s ∷ c → FollowsParticle (b ++ rest)
 follows_more s k b rest c is e = rw e (follows_connector s k (c ++ rest) is)
 
-particle_read : (n : ℕ) (ts rest : List Lexeme) (t : Pattern written) (u : Pattern written × List Lexeme) → primary_with (inside_at n) ts ≡ Ok (t, rest)
+particle_read : (n : ℕ) (ts rest : List Lexeme) (t : PatternAt written) (u : PatternAt written × List Lexeme) → primary_with (inside_at n) ts ≡ Ok (t, rest)
     → repeated t rest ≡ u → particle_with (inside_at n) ts ≡ Ok u
 unfolding particle_with
 particle_read n ts rest t u one is = rw (one, is) refl
 
-more_read : (n : ℕ) (s : Sign) (k : Connector) (ts a b rest end : List Lexeme) (t : Pattern written) (us : List (Pattern written)) → connector_of s ≡ Some k
+more_read : (n : ℕ) (s : Sign) (k : Connector) (ts a b rest end : List Lexeme) (t : PatternAt written) (us : List (PatternAt written)) → connector_of s ≡ Some k
     → ts ≡ sign s ∷ (a ++ b) → particle_with (inside_at n) (a ++ (b ++ rest)) ≡ Ok (t, b ++ rest) → Manys (follow s) (particle_with (inside_at n)) (b ++ rest)
     us end
     → Manys (follow s) (particle_with (inside_at n)) (ts ++ rest) (t ∷ us) end
@@ -360,7 +360,7 @@ more_read n s k ts a b rest end t us is e one others =
     (manys_more (follow s) (particle_with (inside_at n)) (sign s ∷ (a ++ (b ++ rest))) (a ++ (b ++ rest)) (b ++ rest) end t us
     (sign_follows s k (a ++ (b ++ rest)) is) one shorter others)
 
-last_read : (n : ℕ) (s : Sign) (k : Connector) (ts a rest : List Lexeme) (t : Pattern written) → connector_of s ≡ Some k → ts ≡ sign s ∷ a
+last_read : (n : ℕ) (s : Sign) (k : Connector) (ts a rest : List Lexeme) (t : PatternAt written) → connector_of s ≡ Some k → ts ≡ sign s ∷ a
     → particle_with (inside_at n) (a ++ rest) ≡ Ok (t, rest) → follow s rest ≡ None → Manys (follow s) (particle_with (inside_at n)) (ts ++ rest) (t ∷ []) rest
 last_read n s k ts a rest t is e one none =
     let shorter : length rest < length (sign s ∷ (a ++ rest)) = omega (arith, length-append a rest) in
@@ -368,25 +368,25 @@ last_read n s k ts a rest t is e one none =
     (manys_more (follow s) (particle_with (inside_at n)) (sign s ∷ (a ++ rest)) (a ++ rest) rest rest t [] (sign_follows s k (a ++ rest) is) one shorter
     (manys_end (follow s) (particle_with (inside_at n)) rest none))
 
-element_read : (n : ℕ) (s : Spelling) (a b rest : List Lexeme) (c : NameClass written) (t : Pattern written) → classes n (a ++ (b ++ rest)) ≡ Ok (c, b ++ rest)
+element_read : (n : ℕ) (s : Spelling) (a b rest : List Lexeme) (c : NameClassAt written) (t : PatternAt written) → classes n (a ++ (b ++ rest)) ≡ Ok (c, b ++ rest)
     → braced_with (inside_at n) (b ++ rest) ≡ Ok (t, rest) → bare_primary_with (inside_at n) ((keyword keywords.Element s ∷ (a ++ b)) ++ rest) ≡ Ok
     (syntax.element c t, rest)
 unfolding bare_primary_with opened_with named_with
 element_read n s a b rest c t class body = rw (append_assoc a b rest, class, body) refl
 
-attribute_read : (n : ℕ) (s : Spelling) (a b rest : List Lexeme) (c : NameClass written) (t : Pattern written)
+attribute_read : (n : ℕ) (s : Spelling) (a b rest : List Lexeme) (c : NameClassAt written) (t : PatternAt written)
     → classes n (a ++ (b ++ rest)) ≡ Ok (c, b ++ rest)
     → braced_with (inside_at n) (b ++ rest) ≡ Ok (t, rest) → bare_primary_with (inside_at n) ((keyword keywords.Attribute s ∷ (a ++ b)) ++ rest) ≡ Ok
     (syntax.attribute c t, rest)
 unfolding bare_primary_with opened_with named_with
 attribute_read n s a b rest c t class body = rw (append_assoc a b rest, class, body) refl
 
-list_read : (n : ℕ) (s : Spelling) (a rest : List Lexeme) (t : Pattern written) → braced_with (inside_at n) (a ++ rest) ≡ Ok (t, rest)
+list_read : (n : ℕ) (s : Spelling) (a rest : List Lexeme) (t : PatternAt written) → braced_with (inside_at n) (a ++ rest) ≡ Ok (t, rest)
     → bare_primary_with (inside_at n) ((keyword keywords.List s ∷ a) ++ rest) ≡ Ok (syntax.list t, rest)
 unfolding bare_primary_with opened_with
 list_read n s a rest t body = rw body refl
 
-mixed_read : (n : ℕ) (s : Spelling) (a rest : List Lexeme) (t : Pattern written) → braced_with (inside_at n) (a ++ rest) ≡ Ok (t, rest)
+mixed_read : (n : ℕ) (s : Spelling) (a rest : List Lexeme) (t : PatternAt written) → braced_with (inside_at n) (a ++ rest) ≡ Ok (t, rest)
     → bare_primary_with (inside_at n) ((keyword keywords.Mixed s ∷ a) ++ rest) ≡ Ok (syntax.mixed t, rest)
 unfolding bare_primary_with opened_with
 mixed_read n s a rest t body = rw body refl
@@ -420,31 +420,31 @@ external_read : (n : ℕ) (s : Spelling) (a b rest : List Lexeme) (m : Mention w
 unfolding bare_primary_with atom_at other_at
 external_read n s a b rest m e = rw (append_assoc a b rest, e) refl
 
-grammar_read : (n : ℕ) (s : Spelling) (a rest : List Lexeme) (cs : List (Component written))
+grammar_read : (n : ℕ) (s : Spelling) (a rest : List Lexeme) (cs : List (ComponentAt written))
     → contents_with (inside_at n) content ((sign OpenBrace ∷ (a ++ sign CloseBrace ∷ [])) ++ rest) ≡ Ok (cs, rest)
     → bare_primary_with (inside_at n) ((keyword keywords.Grammar s ∷ sign OpenBrace ∷ (a ++ sign CloseBrace ∷ [])) ++ rest) ≡ Ok
     (syntax.grammar (syntax.components_of cs), rest)
 unfolding bare_primary_with opened_with
 grammar_read n s a rest cs e = rw e refl
 
-parens_read : (n : ℕ) (a rest : List Lexeme) (t : Pattern written) → pattern_with (inside_at n) (a ++ (sign CloseParenthesis ∷ rest)) ≡ Ok
+parens_read : (n : ℕ) (a rest : List Lexeme) (t : PatternAt written) → pattern_with (inside_at n) (a ++ (sign CloseParenthesis ∷ rest)) ≡ Ok
     (t, sign CloseParenthesis ∷ rest)
     → bare_primary_with (inside_at (suc n)) ((sign OpenParenthesis ∷ (a ++ sign CloseParenthesis ∷ [])) ++ rest) ≡ Ok (t, rest)
 unfolding bare_primary_with opened_with parens_with inside_at after
 parens_read n a rest t body = rw (append_assoc a (sign CloseParenthesis ∷ []) rest, body) refl
 
-braced_read : (n : ℕ) (a rest : List Lexeme) (t : Pattern written) → pattern_with (inside_at n) (a ++ (sign CloseBrace ∷ rest)) ≡ Ok (t, sign CloseBrace ∷ rest)
+braced_read : (n : ℕ) (a rest : List Lexeme) (t : PatternAt written) → pattern_with (inside_at n) (a ++ (sign CloseBrace ∷ rest)) ≡ Ok (t, sign CloseBrace ∷ rest)
     → braced_with (inside_at (suc n)) ((sign OpenBrace ∷ (a ++ sign CloseBrace ∷ [])) ++ rest) ≡ Ok (t, rest)
 unfolding braced_with inside_at after
 braced_read n a rest t body = braces_read (pattern_with (inside_at n)) a rest t body
 
-contents_read : (n : ℕ) (w : Setting) (a rest : List Lexeme) (cs : List (Component written))
+contents_read : (n : ℕ) (w : Setting) (a rest : List Lexeme) (cs : List (ComponentAt written))
     → components_with (inside_at n) w (a ++ (sign CloseBrace ∷ rest)) ≡ Ok
     (cs, sign CloseBrace ∷ rest) → contents_with (inside_at (suc n)) w ((sign OpenBrace ∷ (a ++ sign CloseBrace ∷ [])) ++ rest) ≡ Ok (cs, rest)
 unfolding contents_with inside_at after
 contents_read n w a rest cs body = braces_read (components_with (inside_at n) w) a rest cs body
 
-overrides_read : (n : ℕ) (a rest : List Lexeme) (cs : List (Component written)) → components_with (inside_at n) override (a ++ (sign CloseBrace ∷ rest)) ≡ Ok
+overrides_read : (n : ℕ) (a rest : List Lexeme) (cs : List (ComponentAt written)) → components_with (inside_at n) override (a ++ (sign CloseBrace ∷ rest)) ≡ Ok
     (cs, sign CloseBrace ∷ rest) → overrides_with (inside_at (suc n)) ((sign OpenBrace ∷ (a ++ sign CloseBrace ∷ [])) ++ rest) ≡ Ok (cs, rest)
 unfolding overrides_with
 overrides_read n a rest cs body = contents_read n override a rest cs body
@@ -460,28 +460,28 @@ method_read (sign BarEqual) m ts e = let q : methods.Choice ≡ m = cc in ap (λ
 method_read (sign AndEqual) m ts e = let q : methods.Interleave ≡ m = cc in ap (λ (m : Method). Ok (m, ts)) q
 method_read _ m ts e = absurd cc
 
-start_read : (n : ℕ) (w : Setting) (s : Spelling) (x : Lexeme) (m : Method) (ts rest : List Lexeme) (t : Pattern written) → method_of x ≡ Some m
+start_read : (n : ℕ) (w : Setting) (s : Spelling) (x : Lexeme) (m : Method) (ts rest : List Lexeme) (t : PatternAt written) → method_of x ≡ Some m
     → pattern_with (inside_at n) ts ≡ Ok (t, rest) → bare_component_with (inside_at n) w (keyword keywords.Start s ∷ x ∷ ts) ≡ Ok (syntax.start m t, rest)
 unfolding bare_component_with assigned_at
 start_read n w s x m ts rest t is body = rw (method_read x m ts is, body) refl
 
-define_read : (n : ℕ) (w : Setting) (name : List ℕ) (x : Lexeme) (m : Method) (ts rest : List Lexeme) (t : Pattern written) → method_of x ≡ Some m
+define_read : (n : ℕ) (w : Setting) (name : List ℕ) (x : Lexeme) (m : Method) (ts rest : List Lexeme) (t : PatternAt written) → method_of x ≡ Some m
     → pattern_with (inside_at n) ts ≡ Ok (t, rest) → bare_component_with (inside_at n) w (identifier name ∷ x ∷ ts) ≡ Ok (syntax.define name m t, rest)
 unfolding bare_component_with assigned_at
 define_read n w name x m ts rest t is body = rw (method_read x m ts is, body) refl
 
-div_read : (n : ℕ) (w : Setting) (s : Spelling) (ts rest : List Lexeme) (cs : List (Component written)) → contents_with (inside_at n) w ts ≡ Ok (cs, rest)
+div_read : (n : ℕ) (w : Setting) (s : Spelling) (ts rest : List Lexeme) (cs : List (ComponentAt written)) → contents_with (inside_at n) w ts ≡ Ok (cs, rest)
     → bare_component_with (inside_at n) w (keyword keywords.Div s ∷ ts) ≡ Ok (syntax.div (syntax.components_of cs), rest)
 unfolding bare_component_with
 div_read n w s ts rest cs e = rw e refl
 
-include_read : (n : ℕ) (s : Spelling) (a b o rest : List Lexeme) (m : Mention written) (cs : List (Component written))
+include_read : (n : ℕ) (s : Spelling) (a b o rest : List Lexeme) (m : Mention written) (cs : List (ComponentAt written))
     → mention_at s.number (a ++ (b ++ (o ++ rest))) ≡ Ok (m, o ++ rest) → overrides_with (inside_at n) (o ++ rest) ≡ Ok (cs, rest)
     → bare_component_with (inside_at n) content ((keyword keywords.Include s ∷ (a ++ (b ++ o))) ++ rest) ≡ Ok (syntax.include m (syntax.components_of cs), rest)
 unfolding bare_component_with
 include_read n s a b o rest m cs e f = rw (append_assoc a (b ++ o) rest, append_assoc b o rest, e, f) refl
 
-bare_front_starts : (w : Setting) {ts : List Lexeme} {c : Component written} → IsBareComponent w ts c → (r : List Lexeme)
+bare_front_starts : (w : Setting) {ts : List Lexeme} {c : ComponentAt written} → IsBareComponent w ts c → (r : List Lexeme)
     → component_front w (ts ++ r) ≡ Some (ts ++ r)
 bare_front_starts content (grammar.start is p e) r = rw e refl
 bare_front_starts content (grammar.define is p e) r = rw e refl
@@ -497,13 +497,13 @@ front_behind : (w : Setting) {note : List Lexeme} → MayBeAnnotation note → (
 front_behind w (name_classes.without_annotation f) ts a r e is = rw (e, f) is
 front_behind w (name_classes.with_annotation p f) ts a r e is = rw (e, f) refl
 
-front_starts : (w : Setting) {ts : List Lexeme} {c : Component written} → IsComponent w ts c → (r : List Lexeme) → component_front w (ts ++ r) ≡ Some (ts ++ r)
+front_starts : (w : Setting) {ts : List Lexeme} {c : ComponentAt written} → IsComponent w ts c → (r : List Lexeme) → component_front w (ts ++ r) ≡ Some (ts ++ r)
 front_starts w {ts} (grammar.annotated_component {a = a} may p e) r = front_behind w may ts a r e (bare_front_starts w p r)
 
 takes_some : (a : List Lexeme) (x : Lexeme) (c r : List Lexeme) → a ≡ x ∷ c → length r < length (a ++ r)
 takes_some a x c r e = rw e (omega (arith, length-append c r))
 
-component_more : (n : ℕ) (w : Setting) (ts a b rest end : List Lexeme) (c : Component written) (cs : List (Component written)) (x : Lexeme) (r : List Lexeme)
+component_more : (n : ℕ) (w : Setting) (ts a b rest end : List Lexeme) (c : ComponentAt written) (cs : List (ComponentAt written)) (x : Lexeme) (r : List Lexeme)
     → ts ≡ a ++ b
     → a ≡ x ∷ r → component_front w (a ++ (b ++ rest)) ≡ Some (a ++ (b ++ rest)) → component_with (inside_at n) w (a ++ (b ++ rest)) ≡ Ok (c, b ++ rest)
     → Manys (component_front w) (component_with (inside_at n) w) (b ++ rest) cs end → Manys (component_front w) (component_with (inside_at n) w) (ts ++ rest)
@@ -519,13 +519,13 @@ components_end : (n : ℕ) (w : Setting) (ts rest : List Lexeme) → ts ≡ [] �
 components_end n w ts rest e none = subst (λ (ts : List Lexeme). Manys (component_front w) (component_with (inside_at n) w) (ts ++ rest) [] rest) (sym e)
     (manys_end (component_front w) (component_with (inside_at n) w) rest none)
 
-pub components_read : (n : ℕ) (w : Setting) (ts rest : List Lexeme) (cs : List (Component written))
+pub components_read : (n : ℕ) (w : Setting) (ts rest : List Lexeme) (cs : List (ComponentAt written))
     → Manys (component_front w) (component_with (inside_at n) w) ts cs
     rest → components_with (inside_at n) w ts ≡ Ok (cs, rest)
 unfolding components_with
 components_read n w ts rest cs m = manys_read (component_front w) (component_with (inside_at n) w) ts rest cs m
 
-may_override_follows : {o : List Lexeme} {cs : List (Component written)} → MayOverride o cs → (rest : List Lexeme) → FollowsPrimary rest
+may_override_follows : {o : List Lexeme} {cs : List (ComponentAt written)} → MayOverride o cs → (rest : List Lexeme) → FollowsPrimary rest
     → (follow Tilde (o ++ rest) ≡ None) × (follow_keyword keywords.Inherit (o ++ rest) ≡ None)
 may_override_follows (grammar.without_overrides e) rest f = (rw e f.tilde, rw e f.inherits)
 may_override_follows (grammar.with_overrides p e) rest f = (rw e refl, rw e refl)
@@ -539,9 +539,9 @@ sign_parts : (s : Sign) (ts a rest : List Lexeme) → ts ≡ a ++ sign s ∷ [] 
 sign_parts s ts a rest e = ap (λ (ts : List Lexeme). ts ++ rest) e ∙ append_assoc a (sign s ∷ []) rest
 
 -- a particle with a sign of repetition, first in a pattern
-from_repeated : (n : ℕ) (ts us rest : List Lexeme) (t u : Pattern written) → pattern_with (inside_at n) ts ≡ pattern_from (inside_at n) t us
+from_repeated : (n : ℕ) (ts us rest : List Lexeme) (t u : PatternAt written) → pattern_with (inside_at n) ts ≡ pattern_from (inside_at n) t us
     → repeated t us ≡ (u, rest) → pattern_with (inside_at n) ts ≡ rest_with (inside_at n) u (separator_of rest) rest
-from_repeated n ts us rest t u first is = first ∙ ap (λ (x : Pattern written × List Lexeme). rest_with (inside_at n) x.0 (separator_of x.1) x.1) is
+from_repeated n ts us rest t u first is = first ∙ ap (λ (x : PatternAt written × List Lexeme). rest_with (inside_at n) x.0 (separator_of x.1) x.1) is
 
 primary_alone : (n : ℕ) → StandsAlone (bare_primary_with (inside_at n))
 unfolding bare_primary_with atom_at other_at
@@ -556,7 +556,7 @@ unfolding bare_component_with assigned_at
 component_alone n w us x e = absurd cc
 
 -- a pattern whose first primary has an annotation
-behind_annotation : (n : ℕ) {note : List Lexeme} → MayBeAnnotation note → (ts a rest : List Lexeme) (t : Pattern written) → ts ≡ note ++ a
+behind_annotation : (n : ℕ) {note : List Lexeme} → MayBeAnnotation note → (ts a rest : List Lexeme) (t : PatternAt written) → ts ≡ note ++ a
     → bare_primary_with (inside_at n) (a ++ rest) ≡ Ok (t, rest) → bare_pattern_with (inside_at n) (a ++ rest) ≡ pattern_from (inside_at n) t rest
     → pattern_with (inside_at n) (ts ++ rest) ≡ pattern_from (inside_at n) t rest
 unfolding pattern_with
@@ -565,7 +565,7 @@ behind_annotation n {note} may ts a rest t e one first =
     ap (pattern_with (inside_at n)) (annotated_parts ts note a rest e)
     ∙ annotated_is bare may (a ++ rest) (no_bracket (bare_primary_with (inside_at n)) (primary_alone n) (a ++ rest) (t, rest) one) ∙ first
 
-braced_begins : {b : List Lexeme} {t : Pattern written} → IsBraced b t → (c : List Lexeme) × (b ≡ sign OpenBrace ∷ c)
+braced_begins : {b : List Lexeme} {t : PatternAt written} → IsBraced b t → (c : List Lexeme) × (b ≡ sign OpenBrace ∷ c)
 braced_begins (grammar.in_braces {a = a} p e) = (a ++ sign CloseBrace ∷ [], e)
 
 brace_no_bar : (b rest c : List Lexeme) → b ≡ sign OpenBrace ∷ c → follow Bar (b ++ rest) ≡ None
@@ -585,14 +585,14 @@ within_braces : (n : ℕ) (ts : List Lexeme) (x : Lexeme) (a : List Lexeme) → 
 within_braces n ts x a e is nest = inside_within n (in_braces a) (sign OpenBrace) (sign CloseBrace) a braces refl
     (behind_within (suc n) ts x (in_braces a) e is nest)
 
-contents_many : (n : ℕ) (w : Setting) (a rest : List Lexeme) (cs : List (Component written)) → Manys (component_front w) (component_with (inside_at n) w)
+contents_many : (n : ℕ) (w : Setting) (a rest : List Lexeme) (cs : List (ComponentAt written)) → Manys (component_front w) (component_with (inside_at n) w)
     (a ++ sign CloseBrace ∷ rest) cs (sign CloseBrace ∷ rest) → contents_with (inside_at (suc n)) w (in_braces a ++ rest) ≡ Ok (cs, rest)
 contents_many n w a rest cs m = contents_read n w a rest cs (components_read n w (a ++ sign CloseBrace ∷ rest) (sign CloseBrace ∷ rest) cs m)
 
 mutual
   unfolding pattern_with primary_with component_with
 
-  pub pattern_complete : {ts : List Lexeme} {t : Pattern written} → IsPattern ts t → (n : ℕ) → NestsWithin n ts → (rest : List Lexeme) → FollowsPattern rest
+  pub pattern_complete : {ts : List Lexeme} {t : PatternAt written} → IsPattern ts t → (n : ℕ) → NestsWithin n ts → (rest : List Lexeme) → FollowsPattern rest
       → pattern_with (inside_at n) (ts ++ rest) ≡ Ok (t, rest)
   pattern_complete {ts} {t} (grammar.one_particle p) n nest rest f = first_complete p n nest rest f.particle ∙ ended_read n rest t f.separator
   pattern_complete {ts} (grammar.particles {u = u} {a = a} {b = b} {s = s} {k = k} {t = t} {us = us} is p q e g) n nest rest f =
@@ -601,7 +601,7 @@ mutual
       let others = more_complete q k is n (second_within n ts a b e (particle_even p) nest) rest f in
       let whole = first ∙ joined_read n s k b rest t us is (separates s k b rest c.0 is c.1) (manys_read (follow s) (particle_with (inside_at n)) (b ++ rest)
       rest us others) in
-      subst (λ (u : Pattern written). pattern_with (inside_at n) (ts ++ rest) ≡ Ok (u, rest)) (sym g)
+      subst (λ (u : PatternAt written). pattern_with (inside_at n) (ts ++ rest) ≡ Ok (u, rest)) (sym g)
       (subst (λ (ts : List Lexeme). pattern_with (inside_at n) ts ≡ Ok (syntax.members k (t ∷ us), rest))
       (sym (ap (λ (ts : List Lexeme). ts ++ rest) e ∙ append_assoc a b rest)) whole)
   pattern_complete {ts} (grammar.data_except {n = note} {a = a} {b = b} {d = d} {ps = ps} {t = t} x may is p q e) n nest rest f =
@@ -616,7 +616,7 @@ mutual
       (parameters_complete p behind refl) (primary_complete q n last rest f.particle.primary)))
 
   -- the first particle of a pattern
-  first_complete : {ts : List Lexeme} {t : Pattern written} → IsParticle ts t → (n : ℕ) → NestsWithin n ts → (rest : List Lexeme) → FollowsParticle rest
+  first_complete : {ts : List Lexeme} {t : PatternAt written} → IsParticle ts t → (n : ℕ) → NestsWithin n ts → (rest : List Lexeme) → FollowsParticle rest
       → pattern_with (inside_at n) (ts ++ rest) ≡ rest_with (inside_at n) t (separator_of rest) rest
   first_complete {ts} {t} (grammar.once p) n nest rest f = from_repeated n (ts ++ rest) rest rest t t (primary_first p n nest rest f.primary f.minus) (f.once t)
   first_complete {ts} {t} (grammar.optional {a = a} {t = u} p e) n nest rest f =
@@ -633,13 +633,13 @@ mutual
       (primary_first p n (first_within n ts a (sign Plus ∷ []) e nest) (sign Plus ∷ rest) (follows_plus rest) refl) refl)
 
   -- the first primary of a pattern
-  primary_first : {ts : List Lexeme} {t : Pattern written} → IsPrimary ts t → (n : ℕ) → NestsWithin n ts → (rest : List Lexeme) → FollowsPrimary rest
+  primary_first : {ts : List Lexeme} {t : PatternAt written} → IsPrimary ts t → (n : ℕ) → NestsWithin n ts → (rest : List Lexeme) → FollowsPrimary rest
       → follow Minus rest ≡ None → pattern_with (inside_at n) (ts ++ rest) ≡ pattern_from (inside_at n) t rest
   primary_first {ts} {t} (grammar.annotated_primary {n = note} {a = a} may p e) n nest rest f minus =
       let one = bare_primary_complete p n (second_within n ts note a e (annotation_even may) nest) rest f in
       behind_annotation n may ts a rest t e one (from_first n (a ++ rest) rest t (first_is p rest f) minus one)
 
-  more_complete : {s : Sign} {ts : List Lexeme} {us : List (Pattern written)} → AreMore s ts us → (k : Connector) → connector_of s ≡ Some k → (n : ℕ)
+  more_complete : {s : Sign} {ts : List Lexeme} {us : List (PatternAt written)} → AreMore s ts us → (k : Connector) → connector_of s ≡ Some k → (n : ℕ)
       → NestsWithin n ts → (rest : List Lexeme) → FollowsPattern rest → Manys (follow s) (particle_with (inside_at n)) (ts ++ rest) us rest
   more_complete {s} {ts} (grammar.last_particle {a = a} {t = t} p e) k is n nest rest f =
       last_read n s k ts a rest t is e (particle_complete p n (behind_within n ts (sign s) a e (plain_connector s k is) nest) rest f.particle)
@@ -650,7 +650,7 @@ mutual
       more_read n s k ts a b rest rest t us is e (particle_complete p n (first_within n (a ++ b) a b refl inner) (b ++ rest)
       (follows_more s k b rest c.0 is c.1)) (more_complete q k is n (second_within n (a ++ b) a b refl (particle_even p) inner) rest f)
 
-  particle_complete : {ts : List Lexeme} {t : Pattern written} → IsParticle ts t → (n : ℕ) → NestsWithin n ts → (rest : List Lexeme) → FollowsParticle rest
+  particle_complete : {ts : List Lexeme} {t : PatternAt written} → IsParticle ts t → (n : ℕ) → NestsWithin n ts → (rest : List Lexeme) → FollowsParticle rest
       → particle_with (inside_at n) (ts ++ rest) ≡ Ok (t, rest)
   particle_complete {ts} {t} (grammar.once p) n nest rest f = particle_read n (ts ++ rest) rest t (t, rest) (primary_complete p n nest rest f.primary)
       (f.once t)
@@ -667,13 +667,13 @@ mutual
       (particle_read n (a ++ sign Plus ∷ rest) (sign Plus ∷ rest) t (syntax.one_or_more t, rest)
       (primary_complete p n (first_within n ts a (sign Plus ∷ []) e nest) (sign Plus ∷ rest) (follows_plus rest)) refl)
 
-  primary_complete : {ts : List Lexeme} {t : Pattern written} → IsPrimary ts t → (n : ℕ) → NestsWithin n ts → (rest : List Lexeme) → FollowsPrimary rest
+  primary_complete : {ts : List Lexeme} {t : PatternAt written} → IsPrimary ts t → (n : ℕ) → NestsWithin n ts → (rest : List Lexeme) → FollowsPrimary rest
       → primary_with (inside_at n) (ts ++ rest) ≡ Ok (t, rest)
   primary_complete {ts} {t} (grammar.annotated_primary {n = note} {a = a} may p e) n nest rest f =
       annotated_read (bare_primary_with (inside_at n)) (primary_alone n) may ts a rest t e
       (bare_primary_complete p n (second_within n ts note a e (annotation_even may) nest) rest f)
 
-  bare_primary_complete : {ts : List Lexeme} {t : Pattern written} → IsBarePrimary ts t → (n : ℕ) → NestsWithin n ts → (rest : List Lexeme)
+  bare_primary_complete : {ts : List Lexeme} {t : PatternAt written} → IsBarePrimary ts t → (n : ℕ) → NestsWithin n ts → (rest : List Lexeme)
       → FollowsPrimary rest → bare_primary_with (inside_at n) (ts ++ rest) ≡ Ok (t, rest)
   bare_primary_complete {ts} (grammar.element {a = a} {b = b} {c = c} {t = t} {s = s} p q e) n nest rest f =
       let inner = behind_within n ts (keyword keywords.Element s) (a ++ b) e (plain _ refl refl) nest in
@@ -717,14 +717,14 @@ mutual
       rw e (parens_read n a rest t (pattern_complete p n (inside_within n ts (sign OpenParenthesis) (sign CloseParenthesis) a parens e nest)
       (sign CloseParenthesis ∷ rest) (follows_closing CloseParenthesis rest (inr refl))))
 
-  braced_complete : {ts : List Lexeme} {t : Pattern written} → IsBraced ts t → (n : ℕ) → NestsWithin n ts → (rest : List Lexeme)
+  braced_complete : {ts : List Lexeme} {t : PatternAt written} → IsBraced ts t → (n : ℕ) → NestsWithin n ts → (rest : List Lexeme)
       → braced_with (inside_at n) (ts ++ rest) ≡ Ok (t, rest)
   braced_complete {ts} (grammar.in_braces {a = a} p e) zero nest rest = absurd (none_within ts (sign OpenBrace) (a ++ sign CloseBrace ∷ []) refl refl e nest)
   braced_complete {ts} {t} (grammar.in_braces {a = a} p e) (suc n) nest rest =
       rw e (braced_read n a rest t (pattern_complete p n (inside_within n ts (sign OpenBrace) (sign CloseBrace) a braces e nest) (sign CloseBrace ∷ rest)
       (follows_closing CloseBrace rest (inl refl))))
 
-  pub components_complete : {w : Setting} {ts : List Lexeme} {cs : List (Component written)} → AreComponents w ts cs → (n : ℕ) → NestsWithin n ts
+  pub components_complete : {w : Setting} {ts : List Lexeme} {cs : List (ComponentAt written)} → AreComponents w ts cs → (n : ℕ) → NestsWithin n ts
       → (rest : List Lexeme) → FollowsComponents rest → Manys (component_front w) (component_with (inside_at n) w) (ts ++ rest) cs rest
   components_complete {w} {ts} (grammar.no_components e) n nest rest f = components_end n w ts rest e (no_front w f)
   components_complete {w} {ts} (grammar.and_component {cs = cs} {a = a} {b = b} {c = c} p q e) n nest rest f =
@@ -732,13 +732,13 @@ mutual
       component_more n w ts a b rest rest c cs s.0 s.1 e s.2 (front_starts w p (b ++ rest)) (component_complete p n (first_within n ts a b e nest) (b ++ rest)
       (more_follow q rest f)) (components_complete q n (second_within n ts a b e (component_even p) nest) rest f)
 
-  component_complete : {w : Setting} {ts : List Lexeme} {c : Component written} → IsComponent w ts c → (n : ℕ) → NestsWithin n ts → (rest : List Lexeme)
+  component_complete : {w : Setting} {ts : List Lexeme} {c : ComponentAt written} → IsComponent w ts c → (n : ℕ) → NestsWithin n ts → (rest : List Lexeme)
       → FollowsPattern rest → component_with (inside_at n) w (ts ++ rest) ≡ Ok (c, rest)
   component_complete {w} {ts} {c} (grammar.annotated_component {n = note} {a = a} may p e) n nest rest f =
       annotated_read (bare_component_with (inside_at n) w) (component_alone n w) may ts a rest c e
       (bare_component_complete p n (second_within n ts note a e (annotation_even may) nest) rest f)
 
-  pub bare_component_complete : {w : Setting} {ts : List Lexeme} {c : Component written} → IsBareComponent w ts c → (n : ℕ) → NestsWithin n ts
+  pub bare_component_complete : {w : Setting} {ts : List Lexeme} {c : ComponentAt written} → IsBareComponent w ts c → (n : ℕ) → NestsWithin n ts
       → (rest : List Lexeme) → FollowsPattern rest → bare_component_with (inside_at n) w (ts ++ rest) ≡ Ok (c, rest)
   bare_component_complete {w} {ts} (grammar.start {a = a} {x = x} {m = m} {t = t} {s = s} is p e) n nest rest f =
       let inner = behind_within n (x ∷ a) x a refl (plain_method x m is) (behind_within n ts (keyword keywords.Start s) (x ∷ a) e (plain _ refl refl) nest) in
@@ -759,7 +759,7 @@ mutual
       rw (w-is, g, e) (include_read n s a b o rest (record { href = v; inherit = x; token = s.number }) cs (mention_complete s.number p q (o ++ rest) h.0 h.1)
       (overrides_complete r n last rest f.particle.primary.brace))
 
-  overrides_complete : {ts : List Lexeme} {cs : List (Component written)} → MayOverride ts cs → (n : ℕ) → NestsWithin n ts → (rest : List Lexeme)
+  overrides_complete : {ts : List Lexeme} {cs : List (ComponentAt written)} → MayOverride ts cs → (n : ℕ) → NestsWithin n ts → (rest : List Lexeme)
       → follow OpenBrace rest ≡ None → overrides_with (inside_at n) (ts ++ rest) ≡ Ok (cs, rest)
   overrides_complete (grammar.without_overrides e) n nest rest is = rw e (no_overrides_read n rest is)
   overrides_complete {ts} (grammar.with_overrides {a = a} p e) zero nest rest is =

@@ -3,7 +3,7 @@ use Rattle.std.proofs.Common.{◌≡◌, ℕ, Bool, true, false, if◌then◌els
 use Rattle.rnc_model.specs.declared.token.Keyword.TheVariants as keywords
 use Rattle.rnc_model.specs.declared.token.Sign.TheVariants.{Minus}
 use Rattle.rnc_model.specs.grammar.Syntax as syntax
-use Rattle.rnc_model.specs.grammar.Syntax.{written, DatatypeName, Pattern}
+use Rattle.rnc_model.specs.grammar.Syntax.{written, DatatypeName, PatternAt}
 use Rattle.rnc_model.specs.tokens.Cut.{Lexeme, keyword, cname}
 use Rattle.rng_model.specs.plain.Answers.{Refuses}
 use Rattle.rnc_syntax.specs.declared.fault.ReadFault.{ReadFault}
@@ -15,11 +15,11 @@ use Rattle.rnc_syntax.specs.plain.Productions.{parameters_at, pattern_from, type
 use Rattle.rnc_syntax.specs.views.Fault.{stop_of}
 
 -- a pattern after its first primary, which begins at ts
-abbrev behind_primary : Inside → List Lexeme → Pattern written → List Lexeme → Outcome (Pattern written)
+abbrev behind_primary : Inside → List Lexeme → PatternAt written → List Lexeme → Outcome (PatternAt written)
 behind_primary inside ts t us = either_way (exclusion_front ts us) (pattern_from inside t us) (excluded_with inside t)
 
 -- a datatype with its parameters
-abbrev data_read : DatatypeName written → List (List ℕ × List ℕ) × List Lexeme → Outcome (Pattern written)
+abbrev data_read : DatatypeName written → List (List ℕ × List ℕ) × List Lexeme → Outcome (PatternAt written)
 data_read d ps = Ok (syntax.data_of d ps.0, ps.1)
 
 -- the name of a datatype, unless a segment follows
@@ -52,24 +52,24 @@ module _ (inside : Inside) where
   pattern_is (_ ∷ ts) = refl
 
   -- a pattern after its first primary
-  behind_is : (ts us : List Lexeme) (t : Pattern written) → bare_primary_with inside ts ≡ Ok (t, us)
+  behind_is : (ts us : List Lexeme) (t : PatternAt written) → bare_primary_with inside ts ≡ Ok (t, us)
       → bare_pattern_with inside ts ≡ behind_primary inside ts t us
-  behind_is ts us t e = pattern_is ts ∙ ap (λ (r : Outcome (Pattern written)). r >>= λ x. behind_primary inside ts x.0 x.1) e
+  behind_is ts us t e = pattern_is ts ∙ ap (λ (r : Outcome (PatternAt written)). r >>= λ x. behind_primary inside ts x.0 x.1) e
 
   -- a pattern whose first primary cannot be read
   pub primary_stops : (ts : List Lexeme) (e : ReadFault) → Refuses (stop_of e) (bare_primary_with inside ts)
       → Refuses (stop_of e) (bare_pattern_with inside ts)
   primary_stops ts read_faults.Memory is = tt
-  primary_stops ts (read_faults.Stop s) is = pattern_is ts ∙ ap (λ (r : Outcome (Pattern written)). r >>= λ x. behind_primary inside ts x.0 x.1) is
+  primary_stops ts (read_faults.Stop s) is = pattern_is ts ∙ ap (λ (r : Outcome (PatternAt written)). r >>= λ x. behind_primary inside ts x.0 x.1) is
 
   -- a pattern that goes on after its first primary
-  pub goes_on_behind : (ts us : List Lexeme) (t : Pattern written) → bare_primary_with inside ts ≡ Ok (t, us) → exclusion_front ts us ≡ None
+  pub goes_on_behind : (ts us : List Lexeme) (t : PatternAt written) → bare_primary_with inside ts ≡ Ok (t, us) → exclusion_front ts us ≡ None
       → bare_pattern_with inside ts ≡ pattern_from inside t us
   goes_on_behind ts us t e none = behind_is ts us t e
       ∙ ap (λ (o : Option (List Lexeme)). either_way o (pattern_from inside t us) (excluded_with inside t)) none
 
   -- a datatype with an exclusion
-  pub excludes_behind : (ts us vs : List Lexeme) (t : Pattern written) → bare_primary_with inside ts ≡ Ok (t, us) → exclusion_front ts us ≡ Some vs
+  pub excludes_behind : (ts us vs : List Lexeme) (t : PatternAt written) → bare_primary_with inside ts ≡ Ok (t, us) → exclusion_front ts us ≡ Some vs
       → bare_pattern_with inside ts ≡ excluded_with inside t vs
   excludes_behind ts us vs t e some = behind_is ts us t e
       ∙ ap (λ (o : Option (List Lexeme)). either_way o (pattern_from inside t us) (excluded_with inside t)) some

@@ -4,7 +4,7 @@ use Rattle.rnc_model.specs.declared.token.Keyword.TheVariants as keywords
 use Rattle.rnc_model.specs.declared.token.Sign.TheVariants.{Question, Star, Plus}
 use Rattle.rnc_model.specs.grammar.Grammar.{Setting}
 use Rattle.rnc_model.specs.grammar.Syntax as syntax
-use Rattle.rnc_model.specs.grammar.Syntax.{written, Declaration, Pattern}
+use Rattle.rnc_model.specs.grammar.Syntax.{written, Declaration, PatternAt}
 use Rattle.rnc_model.specs.tokens.Cut.{Lexeme, keyword, sign}
 use Rattle.rnc_syntax.specs.plain.Combinators.{Outcome, ◌>>=◌, after_keyword, either_way, follow_keyword, unexpected}
 use Rattle.rnc_syntax.specs.plain.Productions.{begins_component, component_front, begins_declaration, declaration_at, declaration_front}
@@ -42,7 +42,7 @@ declaration_is (keyword keywords.Datatypes s ∷ ts) = refl
 declaration_is (_ ∷ ts) = refl
 
 -- what is read by the sign of repetition at the front
-pub repeated_is : (t : Pattern written) (ts : List Lexeme) → repeated t ts ≡ either_way (repetition_front ts) (t, ts) (λ x. (repeated_by x.0 t, x.1))
+pub repeated_is : (t : PatternAt written) (ts : List Lexeme) → repeated t ts ≡ either_way (repetition_front ts) (t, ts) (λ x. (repeated_by x.0 t, x.1))
 repeated_is t [] = refl
 repeated_is t (sign Question ∷ ts) = refl
 repeated_is t (sign Star ∷ ts) = refl

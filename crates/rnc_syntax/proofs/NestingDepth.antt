@@ -14,7 +14,7 @@ use Rattle.rnc_syntax.specs.declared.fault.Stop.{Stop}
 use Rattle.rnc_syntax.specs.declared.fault.Stop.TheVariants.{Unexpected, TooDeep}
 use Rattle.rnc_model.specs.tokens.Cut.{Lexeme, Spelling, keyword, identifier, cname, ns_name, segment, sign}
 use Rattle.rnc_model.specs.grammar.Syntax as syntax
-use Rattle.rnc_model.specs.grammar.Syntax.{written, NameClass, DatatypeName, Pattern}
+use Rattle.rnc_model.specs.grammar.Syntax.{written, NameClassAt, DatatypeName, PatternAt}
 use Rattle.rnc_model.specs.grammar.NameClasses as grammar
 use Rattle.rnc_model.specs.grammar.Grammar.{Setting, content, override, IsParticle, IsComponent, IsDeclaration, IsPrimary}
 use Rattle.rnc_model.specs.grammar.NameClasses.{IsBasic, method_of, MayBeParameters, MayBeAnnotation, IsClass}
@@ -231,7 +231,7 @@ plain_sign : (n : ℕ) (ts us : List Lexeme) (s : Sign) → is_opening (sign s) 
 plain_sign n ts us s o c e nest = behind_within n ts (sign s) us e (plain (sign s) o c) nest
 
 module _ (n : ℕ) (inner : InsideCalm n) where
-  basics : List Lexeme → Outcome (NameClass written)
+  basics : List Lexeme → Outcome (NameClassAt written)
   basics = basic_with (inside_at n).class
 
   bare_basic_calm : (ts : List Lexeme) → NestsWithin n ts → NotDeep (bare_basic_with (inside_at n).class ts)
@@ -253,15 +253,15 @@ module _ (n : ℕ) (inner : InsideCalm n) where
   unfolding basic_with
   basic_calm = annotated_calm n (bare_basic_with (inside_at n).class) bare_basic_calm
 
-  behind_basic : (ts : List Lexeme) (x : NameClass written × List Lexeme) → NestsWithin n ts → basic_with (inside_at n).class ts ≡ Ok x → NestsWithin n x.1
+  behind_basic : (ts : List Lexeme) (x : NameClassAt written × List Lexeme) → NestsWithin n ts → basic_with (inside_at n).class ts ≡ Ok x → NestsWithin n x.1
   behind_basic ts x nest e = after_reads n IsBasic ts x (basic_sound (inside_at n).class (inside_sound n).class ts x e) (λ front a p. basic_even p) nest
 
-  behind_bare_basic : (ts : List Lexeme) (x : NameClass written × List Lexeme) → NestsWithin n ts → bare_basic_with (inside_at n).class ts ≡ Ok x
+  behind_bare_basic : (ts : List Lexeme) (x : NameClassAt written × List Lexeme) → NestsWithin n ts → bare_basic_with (inside_at n).class ts ≡ Ok x
       → NestsWithin n x.1
   behind_bare_basic ts x nest e = after_reads n IsBasic ts x (bare_basic_behind (inside_at n).class (inside_sound n).class [] none ts x e)
       (λ front a p. basic_even p) nest
 
-  choice_calm : (c : NameClass written) (ts : List Lexeme) → NestsWithin n ts → NotDeep (choice_with (basic_with (inside_at n).class) c ts)
+  choice_calm : (c : NameClassAt written) (ts : List Lexeme) → NestsWithin n ts → NotDeep (choice_with (basic_with (inside_at n).class) c ts)
   unfolding choice_with
   choice_calm c ts nest = either_calm (follow Bar ts) _ _ (λ _. ok_calm _)
       (λ us _. bind_calm (many (follow Bar) (basic_with (inside_at n).class) ts) _
@@ -300,7 +300,7 @@ module _ (n : ℕ) (inner : InsideCalm n) where
       (λ x e. in_braces_calm ((inside_at n).components w) x.1
       (inner.components w x.1 (below_open n ts (sign OpenBrace) x.1 refl refl (after_is OpenBrace ts x e) nest)))
 
-  named_calm : (make : NameClass written → Pattern written → Pattern written) (ts : List Lexeme) → NestsWithin n ts → NotDeep (named_with (inside_at n) make ts)
+  named_calm : (make : NameClassAt written → PatternAt written → PatternAt written) (ts : List Lexeme) → NestsWithin n ts → NotDeep (named_with (inside_at n) make ts)
   unfolding named_with
   named_calm make ts nest = bind_calm (class_with (inside_at n).class ts) _ (class_calm ts nest)
       (λ x e. bind_calm (braced_with (inside_at n) x.1) _
@@ -352,13 +352,13 @@ module _ (n : ℕ) (inner : InsideCalm n) where
   separator_plain s (sign Bar ∷ ts) e = let q : Bar ≡ s = cc in subst (λ (s : Sign). Plain (sign s)) q (plain (sign Bar) refl refl)
   separator_plain s _ e = absurd cc
 
-  behind_particle : (ts : List Lexeme) (x : Pattern written × List Lexeme) → NestsWithin n ts → particle_with (inside_at n) ts ≡ Ok x → NestsWithin n x.1
+  behind_particle : (ts : List Lexeme) (x : PatternAt written × List Lexeme) → NestsWithin n ts → particle_with (inside_at n) ts ≡ Ok x → NestsWithin n x.1
   behind_particle ts x nest e = after_reads n IsParticle ts x (particle_sound (inside_at n) (inside_sound n) ts x e) (λ front a p. particle_even p) nest
 
   behind_sign : (s : Sign) (ts us : List Lexeme) → Plain (sign s) → follow s ts ≡ Some us → NestsWithin n ts → NestsWithin n us
   behind_sign s ts us is e nest = behind_within n ts (sign s) us (follow_is s ts us e) is nest
 
-  rest_calm : (t : Pattern written) (o : Option Sign) (ts : List Lexeme) → separator_of ts ≡ o → NestsWithin n ts → NotDeep (rest_with (inside_at n) t o ts)
+  rest_calm : (t : PatternAt written) (o : Option Sign) (ts : List Lexeme) → separator_of ts ≡ o → NestsWithin n ts → NotDeep (rest_with (inside_at n) t o ts)
   unfolding rest_with
   rest_calm t None ts is nest = ok_calm _
   rest_calm t (Some s) ts is nest = bind_calm (many (follow s) (particle_with (inside_at n)) ts) _
@@ -367,13 +367,13 @@ module _ (n : ℕ) (inner : InsideCalm n) where
       (λ us vs x nest e f. behind_particle vs x (behind_sign s us vs (separator_plain s ts is) e nest) f) ts nest)
       (λ y _. ok_calm _)
 
-  repeated_within : (t : Pattern written) (ts : List Lexeme) → NestsWithin n ts → NestsWithin n (repeated t ts).1
+  repeated_within : (t : PatternAt written) (ts : List Lexeme) → NestsWithin n ts → NestsWithin n (repeated t ts).1
   repeated_within t (sign Question ∷ ts) nest = plain_sign n (sign Question ∷ ts) ts Question refl refl refl nest
   repeated_within t (sign Star ∷ ts) nest = plain_sign n (sign Star ∷ ts) ts Star refl refl refl nest
   repeated_within t (sign Plus ∷ ts) nest = plain_sign n (sign Plus ∷ ts) ts Plus refl refl refl nest
   repeated_within t _ nest = nest
 
-  pattern_from_calm : (t : Pattern written) (ts : List Lexeme) → NestsWithin n ts → NotDeep (pattern_from (inside_at n) t ts)
+  pattern_from_calm : (t : PatternAt written) (ts : List Lexeme) → NestsWithin n ts → NotDeep (pattern_from (inside_at n) t ts)
   pattern_from_calm t ts nest = rest_calm (repeated t ts).0 (separator_of (repeated t ts).1) (repeated t ts).1 refl (repeated_within t ts nest)
 
   data_calm : (d : DatatypeName written) (ps : List (List ℕ × List ℕ)) (ts : List Lexeme) → NestsWithin n ts → NotDeep (data_with (inside_at n) d ps ts)

@@ -4,7 +4,7 @@ use Rattle.rnc_model.specs.declared.token.Token.{Token}
 use Rattle.rnc_model.specs.declared.token.Sign.{Sign}
 use Rattle.rnc_model.specs.declared.token.Sign.TheVariants.{Bar, Tilde}
 use Rattle.rnc_model.specs.grammar.Grammar.{Setting}
-use Rattle.rnc_model.specs.grammar.Syntax.{written, NameClass, Pattern, Component, Declaration}
+use Rattle.rnc_model.specs.grammar.Syntax.{written, NameClassAt, PatternAt, ComponentAt, Declaration}
 use Rattle.rnc_model.specs.tokens.Cut.{Lexeme}
 use Rattle.rnc_syntax.specs.plain.Combinators.{follow, segment_at}
 use Rattle.rnc_syntax.specs.plain.Productions.{annotated_parameter_at, basic_with, component_front, component_with, declaration_at, declaration_front}
@@ -36,19 +36,19 @@ pub declaration_taken : (ts us : List Lexeme) (x : Declaration × List Lexeme) �
 declaration_taken = takes declaration_front refl declaration_at declaration_at declaration_part
 
 module _ (n : ℕ) where
-  pub class_taken : (ts us : List Lexeme) (x : NameClass written × List Lexeme) → follow Bar ts ≡ Some us → basic_with (inside_at n).class us ≡ Ok x
+  pub class_taken : (ts us : List Lexeme) (x : NameClassAt written × List Lexeme) → follow Bar ts ≡ Some us → basic_with (inside_at n).class us ≡ Ok x
       → length x.1 < length ts
   class_taken =
       let basic = basic_with (inside_at n).class in
       takes (follow Bar) refl basic basic (follow_front basic basic (basic_local (inside_at n).class (inside_at n).class (self_local n).class) Bar)
 
-  pub particle_taken : (s : Sign) (ts us : List Lexeme) (x : Pattern written × List Lexeme) → follow s ts ≡ Some us → particle_with (inside_at n) us ≡ Ok x
+  pub particle_taken : (s : Sign) (ts us : List Lexeme) (x : PatternAt written × List Lexeme) → follow s ts ≡ Some us → particle_with (inside_at n) us ≡ Ok x
       → length x.1 < length ts
   particle_taken s =
       let particle = particle_with (inside_at n) in
       takes (follow s) refl particle particle (follow_front particle particle (particle_local (inside_at n) (inside_at n) (self_local n) (self_local n)) s)
 
-  pub component_taken : (w : Setting) (ts us : List Lexeme) (x : Component written × List Lexeme) → component_front w ts ≡ Some us
+  pub component_taken : (w : Setting) (ts us : List Lexeme) (x : ComponentAt written × List Lexeme) → component_front w ts ≡ Some us
       → component_with (inside_at n) w us ≡ Ok x → length x.1 < length ts
   component_taken w =
       let component = component_with (inside_at n) w in

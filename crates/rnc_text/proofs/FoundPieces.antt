@@ -9,7 +9,7 @@ use Rattle.rnc_text.specs.declared.scanning.Class.TheVariants as classes
 use Rattle.rnc_model.specs.declared.token.Sign.{Sign}
 use Rattle.rnc_model.specs.characters.Decoding.{numbers_of}
 use Rattle.rnc_model.specs.tokens.Tokens as spec
-use Rattle.rnc_model.specs.tokens.Tokens.{Piece, gap, token, characters_in, IsPiece, IsNcname, is_blank_character}
+use Rattle.rnc_model.specs.tokens.Tokens.{Piece, gap, token, characters_in, IsGapOrToken, IsNcname, is_blank_character}
 use Rattle.rnc_model.specs.tokens.Tokens.{is_quote, word_kind}
 use Rattle.rnc_model.specs.tokens.Tokens.{sign_of, three}
 use Rattle.rnc_text.specs.plain.CutSteps.{Found, front, after, first_of, behind, behind_two, until_three, begins_ncname, starts_ncname, local_at, star_at}
@@ -23,7 +23,7 @@ use Rattle.rnc_text.proofs.QuoteRuns.{behind_parts, two_parts, until_found}
 
 -- the piece is in front, and the rest follows it
 pub record InFront (cs : List Character) (piece : Piece) (rest : List Character) : Type 0 where
-  pub is : IsPiece piece
+  pub is : IsGapOrToken piece
   pub parts : cs ≡ characters_in piece ++ rest
 
 as_found : (cs : List Character) (p q : Piece) (rest end : List Character) → InFront cs p rest → ◌≡◌ {A = Found} (Some (p, rest)) (Some (q, end))

@@ -17,7 +17,7 @@ use Rattle.rnc_model.specs.declared.token.TokenKind.{TokenKind}
 use Rattle.rnc_model.specs.declared.token.TokenKind.TheVariants as kinds
 use Rattle.rnc_model.specs.characters.Decoding.{number_of, numbers_of}
 use Rattle.rnc_model.specs.tokens.Tokens as spec
-use Rattle.rnc_model.specs.tokens.Tokens.{Piece, gap, token, characters_in, IsPiece, IsNcname, IsUpToThree, is_blank_character}
+use Rattle.rnc_model.specs.tokens.Tokens.{Piece, gap, token, characters_in, IsGapOrToken, IsNcname, IsUpToThree, is_blank_character}
 use Rattle.rnc_model.specs.tokens.Tokens.{is_quote, word_kind}
 use Rattle.rnc_model.specs.tokens.Tokens.{sign_of, sign_table, look_up, three}
 use Rattle.rnc_text.specs.plain.CutSteps.{Found, is_in, front, after, first_of, behind, behind_two, until_three, begins_ncname, starts_ncname, local_at}
@@ -350,7 +350,7 @@ at_piece : (q : Piece) (all cs rest : List Character) → cs ≡ characters_in q
     → Covered q (piece_of cs)
 at_piece q all cs rest e f h = covered_by q (piece_of cs) (piece_of all) (ap piece_of (e ∙ f)) h
 
-pub covers : {q : Piece} → IsPiece q → (cs rest : List Character) → cs ≡ characters_in q ++ rest → Covered q (piece_of cs)
+pub covers : {q : Piece} → IsGapOrToken q → (cs rest : List Character) → cs ≡ characters_in q ++ rest → Covered q (piece_of cs)
 covers (spec.blank {c} h) cs rest e = at_piece (gap (c ∷ [])) (c ∷ rest) cs rest e refl (blank_covers c rest h)
 covers (spec.comment {all} {cs = w} h is) cs rest e =
     subst (λ (x : List Character). cs ≡ x ++ rest → Covered (gap x) (piece_of cs)) (sym is)

@@ -13,7 +13,7 @@ use Rattle.rnc_text.specs.declared.fault.TextFault.TheVariants.{At, Memory}
 use Rattle.rnc_text.specs.declared.scanning.Part.{Part}
 use Rattle.rnc_model.specs.declared.token.TokenKind.{TokenKind}
 use Rattle.rnc_model.specs.characters.Decoding.{number_of, bytes_of, byte_length}
-use Rattle.rnc_model.specs.tokens.Tokens.{Piece, gap, token, characters_in, IsPiece}
+use Rattle.rnc_model.specs.tokens.Tokens.{Piece, gap, token, characters_in, IsGapOrToken}
 use Rattle.rnc_model.specs.tokens.Cut.{IsNext, NothingBegins, Cuts, here, next_is, Token, tokens_at, HasTokens, BreaksTokensAt}
 use Rattle.rnc_model.specs.tokens.CutTokens.{AreInOrder}
 use Rattle.rnc_text.specs.views.Answers.{GivesOk, GivesFault, IfBroken}
@@ -26,7 +26,7 @@ use Rattle.rnc_text.proofs.LongestPiece.{Covered, covers}
 
 -- ---- a piece takes something
 
-piece_takes : (q : Piece) → IsPiece q → 0 < length (characters_in q)
+piece_takes : (q : Piece) → IsGapOrToken q → 0 < length (characters_in q)
 piece_takes q is =
     takes (characters_in q) refl (λ e. covered_none q (subst (Covered q) (piece_none [] refl) (covers is [] [] (sym (append-nil (characters_in q) ∙ e)))))
   where
@@ -39,7 +39,7 @@ piece_takes q is =
 
 -- ---- what is next
 
-longest_at : (cs : List Character) (p : Piece) (rest : List Character) → piece_of cs ≡ Some (p, rest) → (q : Piece) (after : List Character) → IsPiece q
+longest_at : (cs : List Character) (p : Piece) (rest : List Character) → piece_of cs ≡ Some (p, rest) → (q : Piece) (after : List Character) → IsGapOrToken q
     → cs ≡ characters_in q ++ after → (length (characters_in q) < length (characters_in p)) ⊎ (q ≡ p)
 longest_at cs p rest e q after is parts = subst (Covered q) e (covers is cs after parts)
 
@@ -258,7 +258,7 @@ cut_stops cs ts cursor h lt none = record {
 
 -- ---- spans
 
-order_piece : (p : Piece) (ps : List Piece) (start n : ℕ) → start ≤ n → IsPiece p → ((start n : ℕ) → start ≤ n → AreInOrder start (tokens_at n ps))
+order_piece : (p : Piece) (ps : List Piece) (start n : ℕ) → start ≤ n → IsGapOrToken p → ((start n : ℕ) → start ≤ n → AreInOrder start (tokens_at n ps))
     → AreInOrder start (tokens_at n (p ∷ ps))
 order_piece (gap all) ps start n le is more = more start (n + byte_length all) (omega (arith, le))
 order_piece (token kind says all) ps start n le is more =

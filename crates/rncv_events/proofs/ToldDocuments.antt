@@ -11,7 +11,7 @@ use Rattle.rng_model.specs.documents.ElementTrees.{IsElementTree}
 use Rattle.rng_model.specs.documents.PyxTrees.{Event, Placed, text_at, element_at, item_of}
 use Rattle.rng_model.specs.documents.Telling.{TellsDocument, TellsTheDocument}
 use Rattle.rng_model.specs.matching.GrammarMatching.{IsValidBy, reading_of}
-use Rattle.rng_model.specs.matching.Outcomes.{KnowsName}
+use Rattle.rng_model.specs.matching.Outcomes.{KnowsName, FailsAt, IsOutcome}
 use Rattle.rng_model.specs.schema.Schema.{Schema}
 use Rattle.rng_model.specs.simple.Table.{Table, grammar_of}
 use Rattle.rng_model.specs.xsd.SchemasWith.{IsValidBySchemaWith}
@@ -25,7 +25,6 @@ use Rattle.element_events.specs.declared.fault.EventFault.{EventFault}
 use Rattle.element_events.specs.declared.fault.EventFault.TheVariants as faults
 use Rattle.element_events.proofs.Kept.{verdict_stuck, working}
 use Rattle.element_events.proofs.Taken.{begins}
-use Rattle.rng_deriv_laws.specs.plain.Outcomes.{FailsAt, IsOutcome}
 use Rattle.rng_deriv_events.specs.views.Positions.{failed_line}
 use Rattle.rng_deriv_events.proofs.KnownDocuments.{fails_there, names_there}
 use Rattle.rng_deriv_table.specs.views.Trees.{trees}

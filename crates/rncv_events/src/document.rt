@@ -52,7 +52,7 @@ pub struct EventDocument {
 impl Model for EventDocument {
     ghost use Rattle.std.specs.Prelude.{IfSome};
     ghost use Rattle.rng_model.specs.simple.Table.{grammar_of};
-    ghost use Rattle.rng_model.specs.restrictions.Restrictions.{BreaksNone};
+    ghost use Rattle.rng_model.specs.restrictions.RestrictionFaults.{BreaksNone};
     ghost use Rattle.rng_deriv.specs.views.Matchers.{IsStateBy};
     ghost use Rattle.rncv_validator.specs.views.FedDocuments.{HasNotRunOut, matching_of};
     ghost use Rattle.rncv_events.specs.views.Leading.{HasPassedRightly, HoldsRightly};

@@ -3,7 +3,8 @@ use Rattle.std.proofs.Common.{◌≡◌, ℕ, List, [], Option, Result, Ok, Err,
 use Rattle.rng_model.specs.matching.SchemaMatching.{IsValidBySchema}
 use Rattle.rng_model.specs.schema.Schema.{Schema}
 use Rattle.rng_model.specs.simple.Table.{Table}
-use Rattle.rncv_model.specs.answers.Verdict.{IsUnknownIn, IsVerdictOn}
+use Rattle.rncv_model.specs.answers.Verdict.{IsUnknownIn}
+use Rattle.rncv_model.specs.answers.VerdictWith.{IsVerdictOn}
 use Rattle.rncv_model.specs.answers.Run.{IsJudged}
 use Rattle.rncv_model.specs.declared.verdict.Verdict.{Verdict}
 use Rattle.rncv_model.specs.declared.verdict.Verdict.TheVariants.{Malformed}

@@ -4,7 +4,7 @@ use Rattle.rng_model.specs.declared.fault.SchemaFault.{SchemaFault}
 use Rattle.rng_model.specs.declared.fault.SchemaFault.TheVariants as faults
 use Rattle.rnc_model.specs.loading.SchemaFile.{FileName, NamedFile}
 use Rattle.rncv_model.specs.answers.Answer.{Answer}
-use Rattle.rncv_model.specs.answers.Verdict.{IsRefusal}
+use Rattle.rncv_model.specs.answers.VerdictWith.{IsRefusal}
 use Rattle.rncv_model.specs.answers.Run.{IsAnswer, file_refused, files_refused, schema_refused}
 use Rattle.rncv_model.specs.declared.command.Command.{Command}
 use Rattle.rncv_run.specs.views.AnswerView.{refusal_of}

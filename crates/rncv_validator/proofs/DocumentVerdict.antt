@@ -10,8 +10,7 @@ use Rattle.rng_model.specs.names.Names.{Name}
 use Rattle.rng_model.specs.documents.PyxClauses.{Breaks}
 use Rattle.rng_model.specs.documents.PyxTrees.{Event, EventKind, a_start, a_string, an_end, Placed, item_of, events_of, IsPyxDocument}
 use Rattle.rng_model.specs.matching.GrammarMatching.{Reading, IsValidBy}
-use Rattle.rng_model.specs.matching.Outcomes.{KnowsName}
-use Rattle.rng_deriv_laws.specs.plain.Outcomes.{IsOutcome, FailsAt}
+use Rattle.rng_model.specs.matching.Outcomes.{KnowsName, IsOutcome, FailsAt}
 use Rattle.rng_deriv_laws.proofs.PyxDocuments.{document_formed}
 use Rattle.rng_model.specs.declared.outcome.Outcome.{Outcome}
 use Rattle.rng_model.specs.declared.outcome.Outcome.TheVariants as outcome

@@ -15,8 +15,7 @@ use Rattle.rng_model.specs.documents.PyxClauses.{IsFirstFault}
 use Rattle.rng_model.specs.documents.ElementTrees.{IsElementTree}
 use Rattle.rng_model.specs.documents.PyxTrees.{Event, EventKind, a_start, a_string, an_end, Placed, events_of, item_of}
 use Rattle.rng_model.specs.matching.GrammarMatching.{reading_of, IsValidBy}
-use Rattle.rng_model.specs.matching.Outcomes.{KnowsName}
-use Rattle.rng_deriv_laws.specs.plain.Outcomes.{IsOutcome}
+use Rattle.rng_model.specs.matching.Outcomes.{KnowsName, IsOutcome}
 use Rattle.rng_deriv_laws.proofs.PyxDocuments.{document_formed}
 use Rattle.rng_model.specs.schema.Schema.{Schema}
 use Rattle.rng_model.specs.simple.Table.{Table, grammar_of}
@@ -24,8 +23,8 @@ use Rattle.rng_model.specs.xsd.SchemasWith.{IsValidBySchemaWith}
 use Rattle.rng_model.specs.xsd.TypeSets.{tests_in}
 use Rattle.rng_model.specs.declared.type_set.TypeSet.{TypeSet}
 use Rattle.rng_model.specs.declared.type_set.TypeSet.TheVariants.{Profile}
-use Rattle.rncv_model.specs.answers.Verdict.{IsUnknownIn, IsVerdictOn, IsMalformed, IsVerdict, StartsUnknown}
-use Rattle.rncv_model.specs.answers.VerdictWith.{IsVerdictOnWith}
+use Rattle.rncv_model.specs.answers.Verdict.{IsUnknownIn, IsMalformedVerdict, IsVerdict, StartsUnknown}
+use Rattle.rncv_model.specs.answers.VerdictWith.{IsVerdictOn, IsVerdictOnWith}
 use Rattle.rncv_model.specs.declared.verdict.Verdict.{Verdict}
 use Rattle.rncv_model.specs.declared.verdict.Verdict.TheVariants.{Malformed, Invalid}
 use Rattle.pyx.specs.views.Calls as calls
@@ -271,20 +270,20 @@ fault_verdict d (faults.Malformed clause line) of = λ types s bytes judges fed.
     on_schema types s bytes (Malformed clause line)
     (subst (λ b. IsFirstFault (lines b) (record { clause = clause; line = line })) (append-nil bytes) first)
 
-pub fault_since : (f : DocumentFault) (o : Option ℕ) → IfSome o (λ line. IfOk (told_by f) (λ v. IsMalformed v ⊎ (v ≡ Invalid line)))
+pub fault_since : (f : DocumentFault) (o : Option ℕ) → IfSome o (λ line. IfOk (told_by f) (λ v. IsMalformedVerdict v ⊎ (v ≡ Invalid line)))
 fault_since faults.Memory o = of_some o (λ line e. tt)
 fault_since (faults.Malformed clause line) o = of_some o (λ n e. inl tt)
 
 pub ended_since : {A : Type 0} (d : Judging) (old new : Matching) → old ≡ d.matching → (ended : Result A PyxFault) (o : Result Outcome OutOfMemory)
     → calls.UnlessOutOfMemory ended (calls.Ends (Hands HasGoneOn old new) d.reader ended)
     → ((line : ℕ) → HasFailedAt new line → IfOk o (λ told. told ≡ outcome.Invalid line))
-    → IfSome (failed_since d) (λ line. IfOk (verdict_by ended o) (λ v. IsMalformed v ⊎ (v ≡ Invalid line)))
+    → IfSome (failed_since d) (λ line. IfOk (verdict_by ended o) (λ v. IsMalformedVerdict v ⊎ (v ≡ Invalid line)))
 ended_since d old new there (Ok x) (Ok o) ends says = of_some (failed_since d) (λ line f.
     let was : HasFailedAt old line = subst (λ (m : Matching). HasFailedAt m line) (sym there) f in
     let now = (gone old new ends.0 ends.1).failed line was in
     told o line (says line now))
   where
-    told : (o : Outcome) (line : ℕ) → o ≡ outcome.Invalid line → IfOk (verdict_by (Ok x) (Ok o)) (λ v. IsMalformed v ⊎ (v ≡ Invalid line))
+    told : (o : Outcome) (line : ℕ) → o ≡ outcome.Invalid line → IfOk (verdict_by (Ok x) (Ok o)) (λ v. IsMalformedVerdict v ⊎ (v ≡ Invalid line))
     told outcome.Valid line e = absurd (cc)
     told (outcome.Invalid n) line e = inr (cc)
 ended_since d old new there (Ok x) (Err e) ends says = of_some (failed_since d) (λ line f. tt)

@@ -2,13 +2,15 @@
 use Rattle.std.proofs.Common.{ℕ, ◌≤◌, arith}
 use Rattle.rng_model.specs.names.Lists.{IsLeast}
 use Rattle.rng_model.specs.restrictions.Restrictions as r
-use Rattle.rng_model.specs.restrictions.Restrictions.{BreaksRestriction, IsLeastRestriction, IsRestrictionFault}
+use Rattle.rng_model.specs.restrictions.Restrictions.{BreaksRestriction}
+use Rattle.rng_model.specs.restrictions.RestrictionFaults.{IsLeastRestriction, IsRestrictionFault}
 use Rattle.rng_model.specs.schema.Schema.{Schema}
 use Rattle.rng_model.specs.schema.SchemaClauses as c
 use Rattle.rng_model.specs.schema.SchemaClauses.{BreaksSchemaClause}
 use Rattle.rng_model.specs.simple.SchemaForm.{IsSimpleGrammarOf}
 use Rattle.rng_model.specs.simple.Grammar.{Grammar}
-use Rattle.rng_model.specs.xsd.SchemasWith.{BreaksSchemaClauseWith, BreaksClauseWith, BreaksNoClauseWith, IsLeastClauseWith, IsSchemaFaultWith}
+use Rattle.rng_model.specs.xsd.SchemasWith.{BreaksSchemaClauseWith, BreaksClauseWith, BreaksNoClauseWith, IsLeastClauseWith}
+use Rattle.rng_simple.specs.views.SchemaFaults.{IsSchemaFaultWith}
 use Rattle.rng_model.specs.xsd.SchemasWith.{in_datatype, in_another, in_schema, in_restriction}
 use Rattle.rng_model.specs.declared.fault.SchemaFault.{SchemaFault}
 use Rattle.rng_model.specs.declared.fault.SchemaFault.TheVariants as faults

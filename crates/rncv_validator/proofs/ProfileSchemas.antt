@@ -11,8 +11,8 @@ use Rattle.rng_model.specs.declared.fault.SchemaFault.{SchemaFault}
 use Rattle.rng_model.specs.declared.fault.SchemaFault.TheVariants as faults
 use Rattle.rng_model.specs.declared.type_set.TypeSet.TheVariants.{Profile}
 use Rattle.rnc_model.specs.loading.SchemaFile.{FileName, NamedFile}
-use Rattle.rncv_model.specs.answers.Verdict.{HaveLeastClause, IsRefusal}
-use Rattle.rncv_model.specs.answers.VerdictWith.{HaveLeastClauseWith, IsRefusalWith}
+use Rattle.rncv_model.specs.answers.Verdict.{HaveLeastClause}
+use Rattle.rncv_model.specs.answers.VerdictWith.{IsRefusal, HaveLeastClauseWith, IsRefusalWith}
 use Rattle.rng_simple.proofs.ProfileClauses.{from_profile, to_profile}
 use Rattle.rncv_validator.specs.views.Validators.{IsOneFor, IsOneForWith}
 

@@ -4,7 +4,8 @@ use Rattle.rng_model.specs.schema.Schema.{Schema}
 use Rattle.rng_model.specs.declared.fault.SchemaFault.{SchemaFault}
 use Rattle.rng_model.specs.declared.fault.SchemaFault.TheVariants as faults
 use Rattle.rng_model.specs.declared.type_set.TypeSet.{TypeSet}
-use Rattle.rnc_model.specs.loading.Loading.{verdict_of_fault, FilesHaveOnlyVerdict}
+use Rattle.rnc_model.specs.loading.Loading.{FilesHaveOnlyVerdict}
+use Rattle.rnc_model.specs.loading.FileVerdicts.{verdict_of_fault}
 use Rattle.rnc_model.specs.loading.SchemaFile.{FileName, NamedFile}
 use Rattle.rncv_model.specs.answers.Verdict.{AreTakenAs}
 use Rattle.rncv_model.specs.answers.VerdictWith.{IsRefusalWith}

@@ -1,7 +1,7 @@
 // From a schema to the grammar by which documents are judged.
 ghost use Rattle.std.specs.Prelude.{IfErr, IfOk, OnOk};
 ghost use Rattle.rng_load.specs.views.PlacedGrammars.{schema_of};
-ghost use Rattle.rng_model.specs.restrictions.Restrictions.{BreaksNone};
+ghost use Rattle.rng_model.specs.restrictions.RestrictionFaults.{BreaksNone};
 ghost use Rattle.rng_model.specs.simple.Table.{grammar_of};
 ghost use Rattle.rng_model.specs.xsd.SchemasWith.{BreaksNoClauseWith};
 ghost use Rattle.rncv_validator.specs.views.Validators.{JudgesWith};

@@ -2,8 +2,8 @@
 ghost use Rattle.std.specs.Prelude.{◌≡◌, ◌↔◌, ◌⊎◌, ◌+◌, ◌^◌, ◌<◌, ◌++◌, ℕ, List, IfErr, IfOk, IfSome, OnErr, OnOk, Some, None, Err, length};
 ghost use Rattle.std.specs.Bool.{OnTrue};
 ghost use Rattle.rng_model.specs.schema.Schema.{Schema};
-ghost use Rattle.rncv_model.specs.answers.Verdict.{IsUnknownIn, IsVerdictOn, IsMalformed};
-ghost use Rattle.rncv_model.specs.answers.VerdictWith.{IsVerdictOnWith};
+ghost use Rattle.rncv_model.specs.answers.Verdict.{IsUnknownIn, IsMalformedVerdict};
+ghost use Rattle.rncv_model.specs.answers.VerdictWith.{IsVerdictOn, IsVerdictOnWith};
 ghost use Rattle.rng_model.specs.matching.SchemaMatching.{IsValidBySchema};
 ghost use Rattle.rng_model.specs.xsd.SchemasWith.{IsValidBySchemaWith};
 ghost use Rattle.rng_model.specs.declared.type_set.TypeSet.{TypeSet};
@@ -52,7 +52,7 @@ pub struct Document {
 impl Model for Document {
     ghost use Rattle.std.specs.Prelude.{IfSome};
     ghost use Rattle.rng_model.specs.simple.Table.{grammar_of};
-    ghost use Rattle.rng_model.specs.restrictions.Restrictions.{BreaksNone};
+    ghost use Rattle.rng_model.specs.restrictions.RestrictionFaults.{BreaksNone};
     ghost use Rattle.rng_deriv.specs.views.Matchers.{IsStateBy};
     ghost use Rattle.rncv_validator.specs.views.FedDocuments.{HasNotRunOut, IsKeptFault, Judging, matching_of};
     ghost use Rattle.rng_model.specs.contracts.name.NameClass as classes;
@@ -190,7 +190,7 @@ impl Document {
         ensures verdict_with { IfOk result.1 (λ v. (types : TypeSet) (s : Schema) (bytes : List ℕ) → JudgesWith types self.grammar s
             → HasBeenFed self bytes → IsVerdictOnWith types s bytes v) }
         ensures sticky { IfSome self.fault (λ f. result.1 ≡ told_by f) }
-        ensures since { IfSome (failed_since self) (λ line. IfOk result.1 (λ v. IsMalformed v ⊎ (v ≡ Verdict.Invalid line))) }
+        ensures since { IfSome (failed_since self) (λ line. IfOk result.1 (λ v. IsMalformedVerdict v ⊎ (v ≡ Verdict.Invalid line))) }
     {
         let Document {
             alloc,

@@ -2,10 +2,9 @@
 ghost use Rattle.std.specs.Prelude.{◌≡◌, ◌<◌, [], length, IfErr, IfOk, IfSome, Some};
 ghost use Rattle.rng_model.specs.schema.Schema.{Schema};
 ghost use Rattle.rng_model.specs.simple.Table.{grammar_of};
-ghost use Rattle.rng_model.specs.restrictions.Restrictions.{BreaksNone};
+ghost use Rattle.rng_model.specs.restrictions.RestrictionFaults.{BreaksNone};
 ghost use Rattle.rnc_model.specs.loading.SchemaFile.{named_files};
-ghost use Rattle.rncv_model.specs.answers.Verdict.{IsRefusal};
-ghost use Rattle.rncv_model.specs.answers.VerdictWith.{IsRefusalWith};
+ghost use Rattle.rncv_model.specs.answers.VerdictWith.{IsRefusal, IsRefusalWith};
 ghost use Rattle.rncv_model.specs.answers.Run.{main_name};
 ghost use Rattle.rncv_model.specs.printed.SchemaText.{IsPrintedForm};
 ghost use Rattle.rncv_validator.specs.views.Validators.{IsOneFor, IsOneForWith, JudgesWith};
@@ -38,7 +37,7 @@ pub struct Validator {
 impl Model for Validator {
     ghost use Rattle.std.specs.Prelude.{IfSome};
     ghost use Rattle.rng_model.specs.simple.Table.{Table, grammar_of};
-    ghost use Rattle.rng_model.specs.restrictions.Restrictions.{BreaksNone};
+    ghost use Rattle.rng_model.specs.restrictions.RestrictionFaults.{BreaksNone};
     ghost use Rattle.rng_deriv.specs.views.Matchers.{IsStateBy};
     ghost use Rattle.rng_model.specs.contracts.name.NameClass as classes;
     ghost use Rattle.std.specs.Coded.{codes};

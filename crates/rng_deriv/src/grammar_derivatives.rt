@@ -1,7 +1,7 @@
 // What is left of the patterns of a grammar.
 ghost use Rattle.std.specs.Prelude.{◌≡◌, IfOk};
 ghost use Rattle.rng_model.specs.simple.Table.{grammar_of};
-ghost use Rattle.rng_model.specs.restrictions.Restrictions.{BreaksNone};
+ghost use Rattle.rng_model.specs.restrictions.RestrictionFaults.{BreaksNone};
 ghost use Rattle.rng_deriv_table.specs.views.Trees.{trees};
 
 use crate::learned::Learned;

@@ -1,13 +1,13 @@
 // The matcher of a grammar.
 ghost use Rattle.std.specs.Prelude.{◌≡◌, ℕ, List, [], ◌∷◌, ◌++◌, IfOk, IsErr, OnErr, OnOk, false};
 ghost use Rattle.rng_model.specs.simple.Table.{grammar_of};
-ghost use Rattle.rng_model.specs.restrictions.Restrictions.{BreaksNone};
+ghost use Rattle.rng_model.specs.restrictions.RestrictionFaults.{BreaksNone};
 ghost use Rattle.rng_model.specs.documents.EventViews.{event_of, Hands};
 ghost use Rattle.rng_model.specs.documents.ElementTrees.{IsElementTree};
 ghost use Rattle.rng_model.specs.documents.PyxTrees as trees;
 ghost use Rattle.rng_model.specs.documents.PyxTrees.{Placed, events_of};
 ghost use Rattle.rng_model.specs.matching.GrammarMatching.{reading_of};
-ghost use Rattle.rng_deriv_laws.specs.plain.Outcomes.{IsOutcome};
+ghost use Rattle.rng_model.specs.matching.Outcomes.{IsOutcome};
 ghost use Rattle.rng_model.specs.datatypes.Texts.{is_blank};
 ghost use Rattle.rng_deriv_events.specs.views.Inputs.{event_at, tests_strings};
 ghost use Rattle.rng_deriv_events.specs.views.NextEnds.{TellsEnd};

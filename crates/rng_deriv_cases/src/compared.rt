@@ -1,5 +1,5 @@
 // Outcomes by the matcher over owned trees.
-ghost use Rattle.rng_model.specs.restrictions.Restrictions.{BreaksNone};
+ghost use Rattle.rng_model.specs.restrictions.RestrictionFaults.{BreaksNone};
 ghost use Rattle.rng_model.specs.simple.Table.{grammar_of};
 
 use crate::watched::read;

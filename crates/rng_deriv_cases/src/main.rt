@@ -14,7 +14,7 @@ mod compared;
 mod watched;
 
 ghost use Rattle.std.specs.Prelude.{All, IfOk, IfSome};
-ghost use Rattle.rng_model.specs.restrictions.Restrictions.{BreaksNone};
+ghost use Rattle.rng_model.specs.restrictions.RestrictionFaults.{BreaksNone};
 ghost use Rattle.rng_model.specs.simple.Table.{grammar_of};
 
 use case_rows::{Answer, Comparison, Row, compare_rows, rows};

@@ -21,8 +21,7 @@ use Rattle.rng_deriv_laws.proofs.Levels.Events.{stands_on, stands_first, levels_
 use Rattle.rng_deriv_table.specs.declared.pattern.PatternNumber.{PatternNumber}
 use Rattle.rng_deriv_events.specs.views.Numbers.{tree_of}
 use Rattle.rng_deriv_events.specs.views.Strings.{IsHeld}
-use Rattle.rng_model.specs.matching.Outcomes.{KnowsName, IsValidByReading}
-use Rattle.rng_deriv_laws.specs.plain.Outcomes.{FailsAt}
+use Rattle.rng_model.specs.matching.Outcomes.{KnowsName, IsValidByReading, FailsAt}
 use Rattle.rng_deriv_events.specs.views.LevelsLeft.{LevelLeft}
 use Rattle.rng_deriv_events.specs.views.NextEnds.{LeadToEnd}
 use Rattle.rng_deriv_events.specs.views.FailedEvents.{IsFailedEvent}

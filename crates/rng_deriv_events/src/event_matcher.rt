@@ -11,7 +11,7 @@ ghost use Rattle.rng_model.specs.documents.EventViews.{event_of};
 ghost use Rattle.rng_model.specs.documents.ElementTrees.{IsElementTree};
 ghost use Rattle.rng_model.specs.documents.PyxTrees as trees;
 ghost use Rattle.rng_model.specs.documents.PyxTrees.{Placed, events_of};
-ghost use Rattle.rng_deriv_laws.specs.plain.Outcomes.{IsOutcome};
+ghost use Rattle.rng_model.specs.matching.Outcomes.{IsOutcome};
 ghost use Rattle.rng_deriv_events.specs.views.NextEnds.{TellsEnd};
 ghost use Rattle.rng_deriv_events.specs.views.Positions.{IsFailed, IsKnown, IsLost, IsProgressInside};
 ghost use Rattle.rng_model.specs.declared.outcome.Outcome.{Outcome};

@@ -15,7 +15,7 @@ use Rattle.rng_names.proofs.Holding.{holds-Decides}
 use Rattle.rng_deriv_laws.specs.plain.Reading.{named_in}
 use Rattle.rng_deriv_laws.specs.plain.States.{finished, after_of, after_item, accepts, is_never}
 use Rattle.rng_deriv_laws.specs.plain.Events.{kinds, new, run, is_valid}
-use Rattle.rng_model.specs.restrictions.Restrictions.{BreaksNone}
+use Rattle.rng_model.specs.restrictions.RestrictionFaults.{BreaksNone}
 use Rattle.rng_deriv_laws.specs.plain.Laws.{reading, AcceptsValidDocuments, NeverIsInvalid, UnknownNameIsNever, InvalidIsNever}
 use Rattle.rng_deriv_laws.proofs.TakesAndMatches.{takes_in, takes_out}
 use Rattle.rng_deriv_laws.proofs.Restricted.{start_may_start, start_restricted, bodies_restricted}

@@ -6,7 +6,6 @@ pub mod Laws
 pub mod LevelEvents
 pub mod LevelStates
 pub mod Meanings
-pub mod Outcomes
 pub mod Reading
 pub mod Restricted
 pub mod States

@@ -13,7 +13,7 @@ use Rattle.rng_deriv_laws.specs.plain.Derivatives.{is_not_allowed}
 use Rattle.rng_deriv_laws.specs.plain.Events.{kinds}
 use Rattle.rng_deriv_laws.specs.plain.LevelEvents.{LevelMatcher, StandsFor, StepsTo, SettlesLevels, as_blank, at_end, at_end_of_text}
 use Rattle.rng_deriv_laws.specs.plain.LevelStates.{EndsLevel, EndsNow, EndsWith, LevelState, Link}
-use Rattle.rng_deriv_laws.specs.plain.Outcomes.{NoneIsValidAfter}
+use Rattle.rng_model.specs.matching.Outcomes.{NoneIsValidAfter}
 use Rattle.rng_deriv_laws.specs.plain.Reading.{named_in}
 use Rattle.rng_deriv_laws.proofs.Events.{kinds_append}
 use Rattle.rng_deriv_laws.proofs.Levels.Events.{no_levels_are_invalid, stands_on}

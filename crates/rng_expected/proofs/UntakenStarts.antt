@@ -16,7 +16,7 @@ use Rattle.rng_deriv_laws.specs.plain.LevelEvents.{LevelMatcher, SettlesLevels, 
 use Rattle.rng_deriv_laws.specs.plain.LevelStates.{LevelState, level_meaning}
 use Rattle.rng_deriv_laws.specs.plain.Meanings.{IsAfterStart, IsEmpty, Runs, stays}
 use Rattle.rng_deriv_laws.specs.plain.Meanings as meanings
-use Rattle.rng_deriv_laws.specs.plain.Outcomes.{NoneIsValidAfter}
+use Rattle.rng_model.specs.matching.Outcomes.{NoneIsValidAfter}
 use Rattle.rng_deriv_laws.specs.plain.Reading.{body_of, has_name}
 use Rattle.rng_deriv_laws.specs.plain.Taking.{Takes, WeaklyMatches, WeaklyTakes}
 use Rattle.rng_deriv_laws.specs.plain.Taking as t

@@ -10,7 +10,7 @@ use Rattle.rng_model.specs.documents.PyxTrees.{Event, a_start, an_end}
 use Rattle.rng_deriv_laws.specs.plain.Events.{kinds}
 use Rattle.rng_deriv_laws.specs.plain.LevelEvents.{LevelMatcher, SettlesLevels, StandsFor}
 use Rattle.rng_deriv_laws.specs.plain.LevelStates.{LevelState}
-use Rattle.rng_deriv_laws.specs.plain.Outcomes.{NoneIsValidAfter}
+use Rattle.rng_model.specs.matching.Outcomes.{NoneIsValidAfter}
 use Rattle.rng_expected.specs.Expectations.{Ends, IsElementOf, SomeBegins}
 use Rattle.rng_expected.specs.Tags.{IsTag, Tag}
 use Rattle.std.specs.Prelude.{Contains}

@@ -1,5 +1,6 @@
 -- Views of types, and invariants.
 pub mod FileFaults
+pub mod FileVerdicts
 pub mod FilesView
 pub mod GatheredComponents
 pub mod GrammarParts

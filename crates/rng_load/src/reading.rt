@@ -2,7 +2,8 @@
 ghost use Rattle.std.specs.Prelude.{◌↔◌, ◌⊎◌, IfSome, IsTrue, MatchOption};
 ghost use Rattle.rng_load.specs.views.FileFaults.{verdict_of};
 ghost use Rattle.rnc_model.specs.loading.SchemaFile.{named_files, IsHandedIn, IsHandedInTwice, IsMissing, BreaksLimit};
-ghost use Rattle.rnc_model.specs.loading.FileVerdicts.{ContentHasOnlyVerdict, FileHasOnlyVerdict};
+ghost use Rattle.rnc_model.specs.loading.FileVerdicts.{ContentHasOnlyVerdict};
+ghost use Rattle.rng_load.specs.views.FileVerdicts.{FileHasOnlyVerdict};
 
 use crate::fault::FileFault;
 use rnc_grammar::{FileTree, resolve};

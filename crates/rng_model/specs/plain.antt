@@ -2,6 +2,8 @@
 pub mod Answers
 pub mod BlankRuns
 pub mod ClassesApart
+pub mod NamedTypes
+pub mod OneDecimal
 pub mod PlaceHashes
 pub mod TextHashes
 pub mod WellFormed

@@ -4,5 +4,6 @@ pub mod Blocks
 pub mod Properties
 pub mod Symbols
 pub mod ExpressionGrammar
+pub mod Sizes
 pub mod plain
 pub mod Patterns

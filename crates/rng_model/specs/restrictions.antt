@@ -1,3 +1,4 @@
 -- Clauses 18 to 27.
 pub mod Restrictions
 pub mod Contents
+pub mod RestrictionFaults

@@ -5,3 +5,4 @@ pub mod PlaceViews
 pub mod ReplacedLists
 pub mod SchemaView
 pub mod ItemViews
+pub mod DeviceViews

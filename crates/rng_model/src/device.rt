@@ -2,7 +2,8 @@
 ghost use Rattle.std.specs.Prelude.{◌≡◌, ◌+◌, ◌-◌, ◌^◌, ◌<◌, ◌≤◌, nat_le, length, true, false, is_ok, IfOk, IsErr, MatchResult, if◌then◌else◌};
 ghost use Rattle.std.specs.Io.{ReadsAtMost, WritesAtMost};
 ghost use Rattle.std.specs.Io.KnownBytes.{ReadConsumes, WriteAppends, Keeps};
-ghost use Rattle.rng_model.specs.devices.Device.{device_inner, device_failures, device_taken, device_flushed};
+ghost use Rattle.rng_model.specs.devices.Device.{device_inner, device_failures, device_taken};
+ghost use Rattle.rng_model.specs.views.DeviceViews.{device_flushed};
 
 use std::io::{Read, Write};
 

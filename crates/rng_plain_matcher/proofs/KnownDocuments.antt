@@ -7,9 +7,8 @@ use Rattle.rng_model.specs.datatypes.Texts.{TextTests}
 use Rattle.rng_model.specs.documents.ElementTrees.{IsElementTree}
 use Rattle.rng_model.specs.documents.PyxTrees.{Event, EventKind, a_start, a_string, an_end, Placed, text_at, element_at, events_of}
 use Rattle.rng_model.specs.matching.GrammarMatching.{Reading, reading_of}
-use Rattle.rng_model.specs.matching.Outcomes.{IsValidByReading, KnowsName}
-use Rattle.rng_deriv_laws.specs.plain.Outcomes.{FailsAt}
-use Rattle.rng_model.specs.restrictions.Restrictions.{BreaksNone}
+use Rattle.rng_model.specs.matching.Outcomes.{IsValidByReading, KnowsName, FailsAt}
+use Rattle.rng_model.specs.restrictions.RestrictionFaults.{BreaksNone}
 use Rattle.rng_model.specs.xsd.TypeSets.{tests_in}
 use Rattle.rng_deriv_laws.specs.plain.Events.{Matcher, kinds, new, run, step, is_valid}
 use Rattle.rng_deriv_laws.specs.plain.Laws.{reading}

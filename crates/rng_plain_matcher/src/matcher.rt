@@ -1,13 +1,13 @@
 // The matcher of a grammar.
 ghost use Rattle.std.specs.Prelude.{◌≡◌, ℕ, List, [], ◌∷◌, ◌++◌, IfOk, OnErr, OnOk};
 ghost use Rattle.rng_model.specs.simple.Table.{grammar_of};
-ghost use Rattle.rng_model.specs.restrictions.Restrictions.{BreaksNone};
+ghost use Rattle.rng_model.specs.restrictions.RestrictionFaults.{BreaksNone};
 ghost use Rattle.rng_model.specs.documents.EventViews.{event_of};
 ghost use Rattle.rng_model.specs.documents.ElementTrees.{IsElementTree};
 ghost use Rattle.rng_model.specs.documents.PyxTrees as trees;
 ghost use Rattle.rng_model.specs.documents.PyxTrees.{Placed, events_of};
 ghost use Rattle.rng_model.specs.matching.GrammarMatching.{reading_of};
-ghost use Rattle.rng_deriv_laws.specs.plain.Outcomes.{IsOutcome};
+ghost use Rattle.rng_model.specs.matching.Outcomes.{IsOutcome};
 ghost use Rattle.rng_plain_matcher.specs.views.Matchers.{HasGoneOn, Knows, after_event, grammar_in, matching_of};
 
 use crate::context::Context;

@@ -8,7 +8,8 @@ use Rattle.rng_model.specs.simple.Grammar.{Grammar}
 use Rattle.rng_model.specs.simple.Tree.{Simple}
 use Rattle.rng_model.specs.restrictions.Contents.{HasProhibited, HasProhibitedInStart, BreaksContent}
 use Rattle.rng_model.specs.restrictions.Restrictions.{BreaksWildcard, BreaksText, BreaksAttributeNames, BreaksElementNames, IsPart, BreaksRestriction}
-use Rattle.rng_model.specs.restrictions.Restrictions.{IsLeastRestriction, BreaksNone, ClassIn}
+use Rattle.rng_model.specs.restrictions.Restrictions.{ClassIn}
+use Rattle.rng_model.specs.restrictions.RestrictionFaults.{IsLeastRestriction, BreaksNone}
 use Rattle.rng_model.specs.restrictions.Restrictions as model
 use Rattle.rng_model.proofs.ProhibitedPaths.{prohibits}
 use Rattle.rng_rules.specs.plain.Broken.{IsIntactBelow, grammar_broken}

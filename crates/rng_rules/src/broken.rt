@@ -1,6 +1,6 @@
 // The clauses that the parts of a grammar break, of those that a part breaks by itself.
 ghost use Rattle.std.specs.Prelude.{All, MatchOption, ◌≡◌, ◌<◌, ℕ, length, map, IfOk};
-ghost use Rattle.rng_model.specs.restrictions.Restrictions.{IsLeastRestriction};
+ghost use Rattle.rng_model.specs.restrictions.RestrictionFaults.{IsLeastRestriction};
 ghost use Rattle.rng_model.specs.simple.Table.{grammar_of};
 ghost use Rattle.rng_model.specs.simple.Grammar.{Grammar};
 ghost use Rattle.rng_model.specs.simple.Tree as tree;

@@ -1,6 +1,6 @@
 // The check of the restrictions.
 ghost use Rattle.std.specs.Prelude.{MatchOption, IfErr, IfOk, OnOk};
-ghost use Rattle.rng_model.specs.restrictions.Restrictions.{BreaksNone, IsLeastRestriction, IsRestrictionFault};
+ghost use Rattle.rng_model.specs.restrictions.RestrictionFaults.{BreaksNone, IsLeastRestriction, IsRestrictionFault};
 ghost use Rattle.rng_model.specs.simple.Table.{grammar_of};
 
 use crate::broken::broken_in;

@@ -5,7 +5,8 @@ use Rattle.rng_model.specs.schema.SchemaClauses as clauses
 use Rattle.rng_model.specs.schema.SchemaClauses.{BreaksDatatype, BreaksSchemaClause}
 use Rattle.rng_model.specs.simple.SimplifiedSchema.{IsSchemaFault}
 use Rattle.rng_model.specs.xsd.SchemasWith as with
-use Rattle.rng_model.specs.xsd.SchemasWith.{BreaksDatatypeWith, BreaksSchemaClauseWith, IsSchemaFaultWith, in_datatype, in_another}
+use Rattle.rng_model.specs.xsd.SchemasWith.{BreaksDatatypeWith, BreaksSchemaClauseWith, in_datatype, in_another}
+use Rattle.rng_simple.specs.views.SchemaFaults.{IsSchemaFaultWith}
 use Rattle.rng_model.specs.declared.fault.SchemaFault.{SchemaFault}
 use Rattle.rng_model.specs.declared.fault.SchemaFault.TheVariants as faults
 use Rattle.rng_model.specs.declared.type_set.TypeSet.TheVariants.{Profile}

@@ -5,7 +5,8 @@ use Rattle.rng_model.specs.names.Lists.{IsLeast}
 use Rattle.rng_model.specs.schema.Schema.{Schema}
 use Rattle.rng_model.specs.schema.SchemaClauses.{BreaksSchemaClause, BreaksExpansion, BreaksDepth}
 use Rattle.rng_model.specs.schema.SchemaClauses as clauses
-use Rattle.rng_model.specs.xsd.SchemasWith.{BreaksSchemaClauseWith, IsSchemaFaultWith, in_datatype, in_another}
+use Rattle.rng_model.specs.xsd.SchemasWith.{BreaksSchemaClauseWith, in_datatype, in_another}
+use Rattle.rng_simple.specs.views.SchemaFaults.{IsSchemaFaultWith}
 use Rattle.rng_model.specs.declared.fault.SchemaFault.{SchemaFault}
 use Rattle.rng_model.specs.declared.fault.SchemaFault.TheVariants as faults
 use Rattle.rng_model.specs.declared.type_set.TypeSet.{TypeSet}

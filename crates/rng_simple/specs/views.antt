@@ -9,3 +9,4 @@ pub mod Joining
 pub mod RowIndex
 pub mod RowTable
 pub mod Rows
+pub mod SchemaFaults

@@ -3,7 +3,7 @@ ghost use Rattle.std.specs.Prelude.{◌≡◌, ◌<◌, length, map, slice_get, 
 ghost use Rattle.rng_model.specs.names.Names as names;
 ghost use Rattle.rng_model.specs.simple.Table.{AreToldApart, grammar_of};
 ghost use Rattle.rng_model.specs.simple.TableRules.{Falls, IsDatatypeKnown, IsPaired, IsTable};
-ghost use Rattle.rng_model.specs.simple.Grammar.{IsInSimpleSyntax};
+ghost use Rattle.rng_model.specs.simple.SimplifiedSchema.{IsInSimpleSyntax, AreAllUsed};
 ghost use Rattle.rng_model.specs.names.NameViews.{class_of};
 ghost use Rattle.rng_model.specs.schema.Schema.{Schema};
 ghost use Rattle.rng_model.specs.xsd.SchemasWith.{BreaksDatatypeWith};
@@ -14,7 +14,6 @@ ghost use Rattle.rng_simple.specs.plain.Graph.{IsOrderBy, Mentions};
 ghost use Rattle.rng_simple.specs.views.GraphView.{classes_of, graph_of};
 ghost use Rattle.rng_simple.specs.plain.InTwos.{nested as nested_tree};
 ghost use Rattle.rng_simple.specs.views.GrammarElements.{AreElementCopies};
-ghost use Rattle.rng_model.specs.simple.SimplifiedSchema.{AreAllUsed};
 ghost use Rattle.rng_simple.specs.plain.MadeTable.{IsMadeTable};
 ghost use Rattle.rng_simple.specs.views.GrammarTables.{table_of};
 

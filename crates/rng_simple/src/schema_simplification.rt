@@ -3,11 +3,10 @@ ghost use Rattle.std.specs.Prelude.{◌≡◌, ℕ, IfErr, IfOk, OnOk};
 ghost use Rattle.rng_load.specs.views.PlacedGrammars.{schema_of};
 ghost use Rattle.rng_model.specs.schema.SchemaClauses.{BreaksSchemaClause};
 ghost use Rattle.rng_model.specs.simple.SchemaForm.{IsOnlySimpleGrammarOf, IsSimpleGrammarOf};
-ghost use Rattle.rng_model.specs.simple.SimplifiedSchema.{AreSameDocuments};
+ghost use Rattle.rng_model.specs.simple.SimplifiedSchema.{AreSameDocuments, IsInSimpleSyntax, AreAllUsed, IsSchemaFault};
 ghost use Rattle.rng_model.specs.simple.Table.{AreToldApart, grammar_of};
-ghost use Rattle.rng_model.specs.simple.Grammar.{IsInSimpleSyntax};
-ghost use Rattle.rng_model.specs.simple.SimplifiedSchema.{AreAllUsed, IsSchemaFault};
-ghost use Rattle.rng_model.specs.xsd.SchemasWith.{AreSameDocumentsWith, BreaksSchemaClauseWith, IsSchemaFaultWith};
+ghost use Rattle.rng_model.specs.xsd.SchemasWith.{AreSameDocumentsWith, BreaksSchemaClauseWith};
+ghost use Rattle.rng_simple.specs.views.SchemaFaults.{IsSchemaFaultWith};
 
 use crate::graph::{expansion_order, schema_graph};
 use crate::schema_form::simple_grammar;

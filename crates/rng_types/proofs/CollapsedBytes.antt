@@ -9,7 +9,7 @@ use Rattle.std.proofs.lemmas.Bool.{and_left, and_right, and_parts, not-true, tru
 use Rattle.std.proofs.Math.Bool.{and-true}
 use Rattle.rng_model.specs.datatypes.Texts.{is_blank_byte, is_blank, pieces, collapse, has_bytes}
 use Rattle.rng_model.specs.plain.BlankRuns.{is_run_byte, is_run, ends_run, HasRuns, no_run, then_run}
-use Rattle.rng_model.specs.datatypes.Facets.{Bounds, is_inside, number_inside, is_decimal, integer_of, most_digits}
+use Rattle.rng_model.specs.datatypes.Facets.{Bounds, is_inside, number_inside, is_decimal, short_integer_of, most_digits}
 use Rattle.rng_model.proofs.BlankRuns.{pieces-blank, HasRuns-pieces, pieces-from_HasRuns}
 use Rattle.rng_types.specs.plain.Runs.{past_blanks, from_run}
 
@@ -175,8 +175,8 @@ some_if true x = refl
 some_if false x = refl
 
 -- whether there is a number
-pub some-integer : (s : List ℕ) → is_some (integer_of s) ≡ is_decimal most_digits (without_leading_sign s)
-unfolding integer_of
+pub some-integer : (s : List ℕ) → is_some (short_integer_of s) ≡ is_decimal most_digits (without_leading_sign s)
+unfolding short_integer_of
 some-integer s = some_if (is_decimal most_digits (without_leading_sign s)) (signed_digits_value 10 s)
 
 -- where all numbers are within bounds

@@ -13,7 +13,7 @@ use Rattle.std.proofs.lemmas.Str.Parse.{IsNumeralModel, IsDigitsTest, numerals_b
 use Rattle.std.proofs.lemmas.Bool.{and_parts, leb-true, and_left, and_right}
 use Rattle.rng_model.specs.datatypes.Texts.{has_bytes}
 use Rattle.rng_model.specs.plain.BlankRuns.{is_run_byte}
-use Rattle.rng_model.specs.datatypes.Facets.{is_decimal, most_digits, most_length_digits, integer_of, length_of, truth_of}
+use Rattle.rng_model.specs.datatypes.Facets.{is_decimal, most_digits, most_length_digits, short_integer_of, length_of, truth_of}
 use Rattle.rng_types.proofs.OnePiece.{all_fails, differs}
 
 digits_test : IsDigitsTest (λ ds. list_all is_ascii_digit ds ≡ true)
@@ -68,8 +68,8 @@ parsed_by bs (Err e) h is = absurd (h is)
 
 -- what `parse` returns for an integer
 pub integer-parsed : {E : Type 0} (bs : List ℕ) (r : Result ℤ E) → ParsesSigned w128 10 bs r → is_decimal most_digits (without_leading_sign bs) ≡ true
-    → result_ok r ≡ integer_of bs
-unfolding integer_of
+    → result_ok r ≡ short_integer_of bs
+unfolding short_integer_of
 integer-parsed bs r h e =
     let is = IsShort-from most_digits (without_leading_sign bs) e in
     let small : digits_value 10 (without_leading_sign bs) < 10 ^ most_digits =
@@ -104,14 +104,14 @@ sign_spaced (c ∷ v) w = by_sign (c == 45) (c == 43) refl refl
 pub none_if : {A : Type 0} (b : Bool) (x : A) → b ≡ false → cond b (Some x) None ≡ None
 none_if b x e = rw e refl
 
-pub integer-spaced : (v w : List ℕ) → integer_of (v ++ 32 ∷ w) ≡ None
-unfolding integer_of
+pub integer-spaced : (v w : List ℕ) → short_integer_of (v ++ 32 ∷ w) ≡ None
+unfolding short_integer_of
 integer-spaced v w =
     let ds = without_leading_sign (v ++ 32 ∷ w) in
     none_if (is_decimal most_digits ds) (signed_digits_value 10 (v ++ 32 ∷ w))
     (and_right (has_bytes ds) (list_all is_ascii_digit ds && nat_le (length ds) most_digits)
     (and_left (list_all is_ascii_digit ds) (nat_le (length ds) most_digits) (sign_spaced v w)))
 
-pub integer-empty : integer_of [] ≡ None
-unfolding integer_of
+pub integer-empty : short_integer_of [] ≡ None
+unfolding short_integer_of
 integer-empty = refl

@@ -4,7 +4,7 @@ ghost use Rattle.std.specs.Char.{is_ascii_digit};
 ghost use Rattle.std.specs.List.{list_all, prefix_len};
 ghost use Rattle.std.specs.Str.Parse.{without_leading_sign};
 ghost use Rattle.rng_model.specs.datatypes.Texts.{collapse};
-ghost use Rattle.rng_model.specs.datatypes.Facets.{is_inside, passes, is_decimal, most_digits, truth_of, integer_of, length_of};
+ghost use Rattle.rng_model.specs.datatypes.Facets.{is_inside, passes, is_decimal, most_digits, truth_of, short_integer_of, length_of};
 ghost use Rattle.rng_types.specs.plain.Runs.{from_run};
 ghost use Rattle.rng_types.specs.views.View.{bounds_of};
 
@@ -84,7 +84,7 @@ fn truth_in(text: &str) -> Option<bool>
 
 // the number that the collapsed text writes
 pub(crate) fn integer(text: &str) -> Option<i128>
-    ensures { result ≡ integer_of (collapse text.now) }
+    ensures { result ≡ short_integer_of (collapse text.now) }
 {
     match only_piece(text) {
         Some(piece) => integer_in(piece),
@@ -93,9 +93,9 @@ pub(crate) fn integer(text: &str) -> Option<i128>
 }
 
 // the number that the text writes
-#[tactic(auto, unfolding(rng_model::specs::datatypes::Facets::integer_of))]
+#[tactic(auto, unfolding(rng_model::specs::datatypes::Facets::short_integer_of))]
 fn integer_in(numeral: &str) -> Option<i128>
-    ensures { result ≡ integer_of numeral.now }
+    ensures { result ≡ short_integer_of numeral.now }
 {
     if is_decimal(without_sign(numeral.as_bytes()), MOST_DIGITS) {
         numeral.parse().ok()
@@ -118,7 +118,7 @@ pub(crate) fn length(numeral: &str) -> Option<usize>
 
 // whether the text collapses to a number
 pub(crate) fn is_integer(text: &str) -> bool
-    ensures { result ≡ is_some (integer_of (collapse text.now)) }
+    ensures { result ≡ is_some (short_integer_of (collapse text.now)) }
 {
     is_numeral(without_sign(past_blanks(text.as_bytes())))
 }

@@ -5,7 +5,7 @@ use Rattle.rng_model.specs.simple.Tree.{Datatype, Tree, choice, group, list, val
 use Rattle.rng_model.specs.matching.Document.{in_order}
 use Rattle.rng_model.specs.datatypes.Texts.{Texts, texts_of, collapse, pieces}
 use Rattle.rng_model.specs.matching.Matching.{Lex, HasText}
-use Rattle.rng_model.specs.datatypes.Facets.{integer_of, written_range}
+use Rattle.rng_model.specs.datatypes.Facets.{short_integer_of, written_range}
 use Rattle.rng_model.specs.datatypes.Datatypes.{xsd_uri, text_tests, type_named, IsAllowed, IsKnownDatatype}
 
 abbrev token_type : Datatype
@@ -20,7 +20,7 @@ AreEqual d v w = IsTrue (text_tests.equals d v w)
 
 -- `01` and `1` are the same value of `xsd:integer` (XML Schema Part 2, section 3.3.13)
 integers_are_equal : AreEqual (integer_type []) (codes "01") (codes "1")
-unfolding type_named written_range collapse pieces integer_of
+unfolding type_named written_range collapse pieces short_integer_of
 integers_are_equal = refl
 
 -- they are two values of `token` (RELAX NG Specification, section 6.2.9)
@@ -30,11 +30,11 @@ tokens_differ h = true≢false (sym h)
 
 -- `xsd:integer { minInclusive = "1" }` allows ` 2 ` and not `0` (XML Schema Part 2, sections 4.3.6 and 4.3.10)
 within_the_bound : IsAllowed (integer_type ((codes "minInclusive", codes "1") ∷ [])) (codes " 2 ")
-unfolding type_named written_range collapse pieces integer_of
+unfolding type_named written_range collapse pieces short_integer_of
 within_the_bound = refl
 
 below_the_bound : ¬ (IsAllowed (integer_type ((codes "minInclusive", codes "1") ∷ [])) (codes "0"))
-unfolding type_named written_range collapse pieces integer_of
+unfolding type_named written_range collapse pieces short_integer_of
 below_the_bound h = true≢false (sym h)
 
 -- `xsd:integer { minLength = "1" }` is not a datatype that is known: `integer` has no such parameter (section 4.16)

@@ -9,7 +9,7 @@ use Rattle.rnc_model.specs.declared.token.Sign.{Sign}
 use Rattle.rnc_model.specs.declared.token.Sign.TheVariants.{Bar, Comma, OpenBrace, CloseBrace, Question, Star, Plus}
 use Rattle.rnc_model.specs.tokens.Cut.{Lexeme, Spelling, keyword, identifier, segment, sign}
 use Rattle.rnc_model.specs.grammar.Syntax as syntax
-use Rattle.rnc_model.specs.grammar.Syntax.{written, Pattern, Component, DatatypeName}
+use Rattle.rnc_model.specs.grammar.Syntax.{written, PatternAt, ComponentAt, DatatypeName}
 use Rattle.rnc_model.specs.grammar.Grammar as g
 use Rattle.rnc_model.specs.grammar.NameClasses as name_classes
 use Rattle.rnc_model.specs.grammar.Grammar.{IsPattern, AreMore, IsParticle, IsPrimary, IsBarePrimary, AreComponents}
@@ -27,7 +27,7 @@ one_line = keyword keywords.Element (record { text = codes "element"; number = 1
 abbrev braces : List Lexeme
 braces = sign OpenBrace ∷ keyword keywords.Empty (record { text = codes "empty"; number = 4 }) ∷ sign CloseBrace ∷ []
 
-primary_alone : (ts : List Lexeme) (t : Pattern written) → IsBarePrimary ts t → IsPattern ts t
+primary_alone : (ts : List Lexeme) (t : PatternAt written) → IsBarePrimary ts t → IsPattern ts t
 primary_alone ts t p = g.one_particle (g.once (g.annotated_primary {n = []} {a = ts} (name_classes.without_annotation refl) p refl))
 
 -- they are an element with the name `a` and the body `empty` ("Syntax")
@@ -110,7 +110,7 @@ module _ (w : List ℕ) (rest : List Lexeme) where
   literal_is_none more (name_classes.more_segments l e v) begins = no_segment (heads _ more rest e begins)
 
   -- a primary that begins with an identifier is only the identifier
-  bare_is_word : {ts : List Lexeme} {t : Pattern written} (more : List Lexeme) → IsBarePrimary ts t → ts ++ more ≡ identifier w ∷ rest
+  bare_is_word : {ts : List Lexeme} {t : PatternAt written} (more : List Lexeme) → IsBarePrimary ts t → ts ++ more ≡ identifier w ∷ rest
       → ts ≡ identifier w ∷ []
   bare_is_word more (g.element c b e) begins = absurd (no_keyword (heads _ more rest e begins))
   bare_is_word more (g.attribute c b e) begins = absurd (no_keyword (heads _ more rest e begins))
@@ -128,7 +128,7 @@ module _ (w : List ℕ) (rest : List Lexeme) where
   bare_is_word more (g.grammar c e t) begins = absurd (no_keyword (heads _ more rest e begins))
   bare_is_word more (g.in_parens p e) begins = absurd (no_sign (heads _ more rest e begins))
 
-  primary_is_word : {ts : List Lexeme} {t : Pattern written} (more : List Lexeme) → IsPrimary ts t → ts ++ more ≡ identifier w ∷ rest
+  primary_is_word : {ts : List Lexeme} {t : PatternAt written} (more : List Lexeme) → IsPrimary ts t → ts ++ more ≡ identifier w ∷ rest
       → ts ≡ identifier w ∷ []
   primary_is_word more (g.annotated_primary n p e) begins =
       let same = no_annotation more n e begins in
@@ -146,7 +146,7 @@ other_sign {k = k} r none e is = no_connector (sym none ∙ ap connector_at e �
 
 module _ (w : List ℕ) (s : Sign) (k : Connector) (connects : connector_of s ≡ Some k) (rest : List Lexeme) where
   -- no `?`, `*` or `+` is behind the identifier
-  no_suffix : {ts a : List Lexeme} {t : Pattern written} (more : List Lexeme) (r : Sign) → connector_of r ≡ None → IsPrimary a t → ts ≡ a ++ sign r ∷ []
+  no_suffix : {ts a : List Lexeme} {t : PatternAt written} (more : List Lexeme) (r : Sign) → connector_of r ≡ None → IsPrimary a t → ts ≡ a ++ sign r ∷ []
       → ¬ (ts ++ more ≡ identifier w ∷ sign s ∷ rest)
   no_suffix {ts = ts} {a = a} more r none p e begins =
       let apart : ts ++ more ≡ a ++ sign r ∷ more = ap (λ l. l ++ more) e ∙ append_assoc a (sign r ∷ []) more in
@@ -154,7 +154,7 @@ module _ (w : List ℕ) (s : Sign) (k : Connector) (connects : connector_of s �
       let same : sign r ≡ sign s = ap first (tails [] (sign r ∷ more) (sign s ∷ rest) word (sym apart ∙ begins)) in
       other_sign r none same connects
 
-  particle_is_word : {ts : List Lexeme} {t : Pattern written} (more : List Lexeme) → IsParticle ts t → ts ++ more ≡ identifier w ∷ sign s ∷ rest
+  particle_is_word : {ts : List Lexeme} {t : PatternAt written} (more : List Lexeme) → IsParticle ts t → ts ++ more ≡ identifier w ∷ sign s ∷ rest
       → ts ≡ identifier w ∷ []
   particle_is_word more (g.once p) begins = primary_is_word w (sign s ∷ rest) more p begins
   particle_is_word more (g.optional p e) begins = absurd (no_suffix more Question refl p e begins)
@@ -162,7 +162,7 @@ module _ (w : List ℕ) (s : Sign) (k : Connector) (connects : connector_of s �
   particle_is_word more (g.one_or_more p e) begins = absurd (no_suffix more Plus refl p e begins)
 
 -- more particles begin with their connector
-begins_with_connector : {s : Sign} {ts : List Lexeme} {us : List (Pattern written)} {x : Lexeme} {rest : List Lexeme} → AreMore s ts us → ts ≡ x ∷ rest
+begins_with_connector : {s : Sign} {ts : List Lexeme} {us : List (PatternAt written)} {x : Lexeme} {rest : List Lexeme} → AreMore s ts us → ts ≡ x ∷ rest
     → sign s ≡ x
 begins_with_connector (g.last_particle p e) begins = ap first (sym e ∙ begins)
 begins_with_connector (g.more_particles p m e) begins = ap first (sym e ∙ begins)
@@ -177,7 +177,7 @@ module _ (rest : List Lexeme) where
   from_bar = sign Bar ∷ bar ∷ sign Comma ∷ rest
 
   -- behind `|` and `bar` no comma can be
-  no_more : {s : Sign} {ts : List Lexeme} {us : List (Pattern written)} → AreMore s ts us → ¬ (ts ≡ from_bar)
+  no_more : {s : Sign} {ts : List Lexeme} {us : List (PatternAt written)} → AreMore s ts us → ¬ (ts ≡ from_bar)
   no_more (g.last_particle {a = a} p e) begins =
       let a_is : a ≡ bar ∷ sign Comma ∷ rest = ap behind (sym e ∙ begins) in
       let word : a ≡ bar ∷ [] = particle_is_word (codes "bar") Comma group refl rest [] p (append-nil a ∙ a_is) in
@@ -192,7 +192,7 @@ module _ (rest : List Lexeme) where
       let is_bar : sign s ≡ sign Bar = ap first (sym e ∙ begins) in
       bar_is_not_comma (sym is_bar ∙ comma)
 
-  no_pattern : {ts : List Lexeme} {t : Pattern written} → IsPattern ts t → ¬ (ts ≡ foo ∷ from_bar)
+  no_pattern : {ts : List Lexeme} {t : PatternAt written} → IsPattern ts t → ¬ (ts ≡ foo ∷ from_bar)
   no_pattern (g.one_particle {ts = ts} p) begins =
       let word : ts ≡ foo ∷ [] = particle_is_word (codes "foo") Bar choice refl (bar ∷ sign Comma ∷ rest) [] p (append-nil ts ∙ begins) in
       let none : from_bar ≡ [] = ap behind (sym begins ∙ word) in
@@ -208,7 +208,7 @@ module _ (rest : List Lexeme) where
   no_method : {m : Method} → ¬ (◌≡◌ {A = Option Method} None (Some m))
   no_method e = cc
 
-  no_bare_component : {v : g.Setting} {ts : List Lexeme} {c : Component written} (more : List Lexeme) → IsBareComponent v ts c → ¬ (ts ++ more ≡ foo ∷ from_bar)
+  no_bare_component : {v : g.Setting} {ts : List Lexeme} {c : ComponentAt written} (more : List Lexeme) → IsBareComponent v ts c → ¬ (ts ++ more ≡ foo ∷ from_bar)
   no_bare_component more (g.start m p e) begins = no_keyword (heads _ more from_bar e begins)
   no_bare_component more (g.define {x = x} {m = m} has p e) begins =
       let is_bar : x ≡ sign Bar = ap first (tails _ more from_bar e begins) in
@@ -216,7 +216,7 @@ module _ (rest : List Lexeme) where
   no_bare_component more (g.div a e c) begins = no_keyword (heads _ more from_bar e begins)
   no_bare_component more (g.include v l i o e c) begins = no_keyword (heads _ more from_bar e begins)
 
-  no_components : {v : g.Setting} {ts : List Lexeme} {cs : List (Component written)} → AreComponents v ts cs → ¬ (ts ≡ foo ∷ from_bar)
+  no_components : {v : g.Setting} {ts : List Lexeme} {cs : List (ComponentAt written)} → AreComponents v ts cs → ¬ (ts ≡ foo ∷ from_bar)
   no_components (g.no_components e) begins =
       let n : 0 ≡ suc (length from_bar) = ap length (sym e ∙ begins) in
       omega (arith, n)

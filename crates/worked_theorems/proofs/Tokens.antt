@@ -10,7 +10,7 @@ use Rattle.rnc_model.specs.declared.token.Keyword.TheVariants as keywords
 use Rattle.rnc_model.specs.declared.token.Sign.{Sign}
 use Rattle.rnc_model.specs.declared.token.Sign.TheVariants as signs
 use Rattle.rnc_model.specs.declared.token.TokenKind.TheVariants as kinds
-use Rattle.rnc_model.specs.tokens.Tokens.{Piece, gap, token, characters_in, IsPiece, keyword_of, sign_of}
+use Rattle.rnc_model.specs.tokens.Tokens.{Piece, gap, token, characters_in, IsGapOrToken, keyword_of, sign_of}
 use Rattle.rnc_model.specs.tokens.Tokens as pieces
 use Rattle.rnc_model.specs.tokens.Cut.{IsNext, NothingBegins, Cuts, here, next_is, HasTokens, BreaksTokensAt}
 
@@ -18,7 +18,7 @@ abbrev characters : List ℕ → List Character
 characters cs = map (λ c. Ordinary c) cs
 
 -- a piece that is all of the characters is the longest
-all_of : (cs : List Character) (piece : Piece) → IsPiece piece → characters_in piece ≡ cs → IsNext cs piece []
+all_of : (cs : List Character) (piece : Piece) → IsGapOrToken piece → characters_in piece ≡ cs → IsNext cs piece []
 all_of cs piece is e = record {
   is = is;
   parts = sym (append-nil (characters_in piece) ∙ e);
@@ -28,14 +28,14 @@ all_of cs piece is e = record {
       omega (arith, n, m);
 }
 
-one_piece : (cs : List Character) (piece : Piece) → IsPiece piece → characters_in piece ≡ cs → Cuts cs (piece ∷ []) []
+one_piece : (cs : List Character) (piece : Piece) → IsGapOrToken piece → characters_in piece ≡ cs → Cuts cs (piece ∷ []) []
 one_piece cs piece is e = next_is (all_of cs piece is e) (here refl) refl
 
 -- `|=` is one token ("Lexical structure")
 abbrev bar_equal : List Character
 bar_equal = characters (codes "|=")
 
-is_bar_equal : IsPiece (token (kinds.Sign signs.BarEqual) bar_equal bar_equal)
+is_bar_equal : IsGapOrToken (token (kinds.Sign signs.BarEqual) bar_equal bar_equal)
 unfolding sign_of
 is_bar_equal = pieces.sign refl
 

@@ -4,7 +4,7 @@ use Rattle.std.proofs.Common.{inl, inr, arith}
 use Rattle.std.proofs.Common.{None, ◌⊎◌}
 use Rattle.std.proofs.lemmas.Bool.{cases_lt}
 use Rattle.std.proofs.lemmas.List.{append_assoc, get_or_past}
-use Rattle.rng_model.specs.regexes.Expressions.{Class, holds, Regex, times, Matches, one_is, both_are, first_is, second_is, so_often}
+use Rattle.rng_model.specs.regexes.Expressions.{Class, holds, Regex, times, Denotes, one_is, both_are, first_is, second_is, so_often}
 use Rattle.rng_model.specs.regexes.plain.LinearForms.{RegexState, AcceptsState, nothing_left, next_is, is_nullable}
 use Rattle.xsd_regex.specs.plain.StateTable.{state_at, Has}
 use Rattle.xsd_regex.specs.plain.Positions.{Part, class_part}
@@ -102,23 +102,23 @@ module _ (states : List RegexState) (ps : List Position) (are : ArePositions sta
       pub rest : Accepts (position_at ps at).next t
 
     abbrev Below : ℕ → ℕ → List ℕ → Type 0
-    Below i c t = (j : ℕ) → j < i → Has is j → (r : Regex) (k : RegexState) → state_at states j ≡ r ∷ k → (u v : List ℕ) → Matches r (c ∷ u)
+    Below i c t = (j : ℕ) → j < i → Has is j → (r : Regex) (k : RegexState) → state_at states j ≡ r ∷ k → (u v : List ℕ) → Denotes r (c ∷ u)
         → AcceptsState k v → t ≡ u ++ v → Found c t
 
     part_char : (i next c : ℕ) (t : List ℕ) (p : Part) (r : Regex) (u v : List ℕ) → i < length ps → IsPart states i next p r
         → ((j : ℕ) → Has (part_edges ps i p) j → Has is j) → Below i c t
         → ((k : Class) → p ≡ class_part k → holds k c ≡ true → Accepts next t → Found c t)
-        → Matches r (c ∷ u) → Accepts next v → t ≡ u ++ v → Found c t
+        → Denotes r (c ∷ u) → Accepts next v → t ≡ u ++ v → Found c t
     part_char i next c t _ _ u v within is_nothing edge below own m a parts = elim m [ ]
     part_char i next c t _ _ _ v within (is_class {k}) edge below own (one_is h) a parts = own k refl h (subst (Accepts next) (sym parts) a)
     part_char i next c t _ _ u v within (is_both {l} {a = x} {b = y} lt some left right) edge below own (both_are {s} {t = s'} mx my e) a parts =
         elim (head_in c u s s' e) [
           | inl h ↦
-              let nullable = left_nullable l x (y ∷ state_at states next) (omega (arith, lt, within)) left ∙ nullable_if x (subst (Matches x) h.0 mx) in
+              let nullable = left_nullable l x (y ∷ state_at states next) (omega (arith, lt, within)) left ∙ nullable_if x (subst (Denotes x) h.0 mx) in
               below (i - 1) (omega (arith, some)) (edge (i - 1) (inr (under_in _ _ ((i - 1) ∷ []) nullable (inl refl))))
-              y (state_at states next) right u v (subst (Matches y) h.1 my) a parts
+              y (state_at states next) right u v (subst (Denotes y) h.1 my) a parts
           | inr h ↦
-              below l lt (edge l (inl refl)) x (y ∷ state_at states next) left h.rest (s' ++ v) (subst (Matches x) h.first mx) (next_is my a refl)
+              below l lt (edge l (inl refl)) x (y ∷ state_at states next) left h.rest (s' ++ v) (subst (Denotes x) h.first mx) (next_is my a refl)
               (parts ∙ ap (λ l. l ++ v) h.parts ∙ append_assoc h.rest s' v)
         ]
     part_char i next c t _ _ u v within (is_either {l} {a = x} {b = y} lt some left right) edge below own (first_is m) a parts =
@@ -135,7 +135,7 @@ module _ (states : List RegexState) (ps : List Position) (are : ArePositions sta
 
     -- the first character is in the part of a position, with smaller numbers for its parts
     first_char : (m i c : ℕ) (t : List ℕ) → i < m → i < length ps → Has is i → (r : Regex) (k : RegexState) → state_at states i ≡ r ∷ k
-        → (u v : List ℕ) → Matches r (c ∷ u) → AcceptsState k v → t ≡ u ++ v → Found c t
+        → (u v : List ℕ) → Denotes r (c ∷ u) → AcceptsState k v → t ≡ u ++ v → Found c t
     first_char zero i c t lt within has r k e u v m a parts = absurd (omega (arith, lt))
     first_char (suc m) i c t lt within has r k e u v mr a parts =
         let p = are.each i within in
@@ -145,7 +145,7 @@ module _ (states : List RegexState) (ps : List Position) (are : ArePositions sta
         (λ j below has' r' k' e' u' v' m' a' parts'.
         first_char m j c t (omega (arith, lt, below)) (omega (arith, below, within)) has' r' k' e' u' v' m' a' parts')
         (λ k' part h rest. record { at = i; has = has; class = k'; part = part; holds = h; rest = rest })
-        (subst (λ x. Matches x (c ∷ u)) (heads r p.expression k (state_at states here.next) (sym e ∙ p.state)) mr)
+        (subst (λ x. Denotes x (c ∷ u)) (heads r p.expression k (state_at states here.next) (sym e ∙ p.state)) mr)
         (subst (λ x. AcceptsState x v) (tails r p.expression k (state_at states here.next) (sym e ∙ p.state)) a)
         parts
 
@@ -162,12 +162,12 @@ module _ (states : List RegexState) (ps : List Position) (are : ArePositions sta
     no_first c t a = elim a [ ]
 
     -- the first character is in the part, or the part is empty
-    state_parts : (c : ℕ) (t : List ℕ) (r : Regex) (k : RegexState) → ((u v : List ℕ) → Matches r (c ∷ u) → AcceptsState k v → t ≡ u ++ v → Found c t)
+    state_parts : (c : ℕ) (t : List ℕ) (r : Regex) (k : RegexState) → ((u v : List ℕ) → Denotes r (c ∷ u) → AcceptsState k v → t ≡ u ++ v → Found c t)
         → (is_nullable r ≡ true → AcceptsState k (c ∷ t) → Found c t) → AcceptsState (r ∷ k) (c ∷ t) → Found c t
     state_parts c t r k here behind (next_is {s = u} {t = v} m a e) =
         elim (head_in c t u v e) [
-          | inl h ↦ behind (nullable_if r (subst (Matches r) h.0 m)) (subst (AcceptsState k) h.1 a)
-          | inr h ↦ here h.rest v (subst (Matches r) h.first m) a h.parts
+          | inl h ↦ behind (nullable_if r (subst (Denotes r) h.0 m)) (subst (AcceptsState k) h.1 a)
+          | inr h ↦ here h.rest v (subst (Denotes r) h.first m) a h.parts
         ]
 
     found_char : (m i c : ℕ) (t : List ℕ) → length ps - i < m → Has is i → Accepts i (c ∷ t) → Found c t
@@ -186,7 +186,7 @@ module _ (states : List RegexState) (ps : List Position) (are : ArePositions sta
         ]
 
     state_ends : (r : Regex) (k : RegexState) → AcceptsState (r ∷ k) [] → (is_nullable r ≡ true) × AcceptsState k []
-    state_ends r k (next_is {s} {t} m a e) = (nullable_if r (subst (Matches r) (none_before s t e) m), subst (AcceptsState k) (none_behind s t e) a)
+    state_ends r k (next_is {s} {t} m a e) = (nullable_if r (subst (Denotes r) (none_before s t e) m), subst (AcceptsState k) (none_behind s t e) a)
 
     found_end : (m i : ℕ) → length ps - i < m → Has is i → Accepts i [] → Has is (length ps)
     found_end zero i lt has a = absurd (omega (arith, lt))

@@ -3,7 +3,7 @@ use Rattle.std.proofs.Common.{◌≡◌, ◌↔◌, ◌∙◌, ◌<◌, ◌≤�
 use Rattle.std.proofs.Common.{subst, inl, inr}
 use Rattle.std.proofs.lemmas.List.{append_assoc, append-nil, take_more}
 use Rattle.std.proofs.lemmas.List.Sums.{fold-append}
-use Rattle.rng_model.specs.regexes.Expressions.{Regex, Matches}
+use Rattle.rng_model.specs.regexes.Expressions.{Regex, Denotes}
 use Rattle.rng_model.specs.regexes.plain.LinearForms.{AcceptsState}
 use Rattle.xsd_regex.specs.plain.StateTable.{state_at, Has}
 use Rattle.xsd_regex.specs.plain.Positions.{Position, ArePositionsOf}
@@ -77,7 +77,7 @@ module _ (ps : List Position) where
 
   -- at the end of the text
   pub judged : (r : Regex) (first : ℕ) (s : List ℕ) (is : List ℕ) → ArePositionsOf r first ps → IsClosed ps is → LeadsTo ps first s is
-      → (has_number is (length ps) ≡ true) ↔ Matches r s
+      → (has_number is (length ps) ≡ true) ↔ Denotes r s
   judged r first s is of closed leads = (
     λ e. of.back s (subst (AcceptsState (state_at of.states first)) (append-nil s)
         ((leads of.states of.are []).1 ((at_end ps is closed of.states of.are).1 (has_then is (length ps) e)))),

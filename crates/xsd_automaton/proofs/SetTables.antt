@@ -3,7 +3,7 @@ use Rattle.std.proofs.Common.{◌≡◌, ◌↔◌, ◌∙◌, ◌⊎◌, ◌<�
 use Rattle.std.proofs.Common.{subst, inl, inr, arith, Option, None, IfSome}
 use Rattle.std.specs.List.{slice_get}
 use Rattle.std.proofs.lemmas.Option.{slice_get_within}
-use Rattle.rng_model.specs.regexes.Expressions.{Regex, Matches}
+use Rattle.rng_model.specs.regexes.Expressions.{Regex, Denotes}
 use Rattle.xsd_regex.specs.plain.Positions.{Position, ArePositionsOf}
 use Rattle.xsd_automaton.specs.declared.sets.SetRow.{SetRow}
 use Rattle.xsd_automaton.specs.plain.Closures.{has_number}
@@ -45,7 +45,7 @@ module _ (ps : List Position) (first : ℕ) (rows : List SetRow) (table : IsSetT
 -- whether the end is in the set that the text leads to
 judged_in : (ps : List Position) (first : ℕ) (rows : List SetRow) (ends : List Bool) (tables : AreTables ps first rows ends) (r : Regex) (set : ℕ)
     (is_end : Bool) (read : List ℕ) → ArePositionsOf r first ps → slice_get ends set ≡ Some is_end
-    → LeadsToSet ps first rows tables.table set read → (is_end ≡ true) ↔ Matches r read
+    → LeadsToSet ps first rows tables.table set read → (is_end ≡ true) ↔ Denotes r read
 judged_in ps first rows ends tables r set is_end read of at is =
     let within = slice_get_within ends set is_end at in
     let as_many = tables.as_many in
@@ -59,7 +59,7 @@ judged_in ps first rows ends tables r set is_end read of at is =
 
 pub judged_end : (ps : List Position) (first : ℕ) (rows : List SetRow) (ends : List Bool) (tables : AreTables ps first rows ends) (r : Regex) (set : ℕ)
     (read : List ℕ) → ArePositionsOf r first ps → LeadsToSet ps first rows tables.table set read → (found : Option Bool) → found ≡ slice_get ends set
-    → IfSome found (λ b. (b ≡ true) ↔ Matches r read)
+    → IfSome found (λ b. (b ≡ true) ↔ Denotes r read)
 judged_end ps first rows ends tables r set read of leads None e = tt
 judged_end ps first rows ends tables r set read of leads (Some b) e = judged_in ps first rows ends tables r set b read of (sym e) leads
 

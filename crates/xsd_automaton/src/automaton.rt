@@ -1,7 +1,7 @@
 // The automaton of an expression.
 ghost use Rattle.std.specs.Prelude.{◌≡◌, ◌≤◌, ◌↔◌, IfOk, IsTrue, length};
 ghost use Rattle.std.specs.Str.{chars};
-ghost use Rattle.rng_model.specs.regexes.Expressions.{Matches, Regex};
+ghost use Rattle.rng_model.specs.regexes.Expressions.{Denotes, Regex};
 ghost use Rattle.xsd_regex.specs.plain.Positions.{ArePositionsOf};
 ghost use Rattle.xsd_positions.specs.views.Positions.{positions_of};
 ghost use Rattle.xsd_automaton.specs.views.WhiteSpace.{treated};
@@ -59,7 +59,7 @@ impl Automaton {
     /// one pass over the positions for each character if it leads to a set that has no row, or if it has a character past
     /// ASCII and a class of the expression is made of a set that holds some of these characters.
     pub fn accepts(&self, text: &str) -> bool
-        ensures { (r : Regex) → ArePositionsOf r self.now.first (positions_of self.now) → IsTrue result ↔ Matches r (chars text.now) }
+        ensures { (r : Regex) → ArePositionsOf r self.now.first (positions_of self.now) → IsTrue result ↔ Denotes r (chars text.now) }
     {
         match accepts_by_sets(&self.sets, text) {
             Some(answer) => answer,
@@ -73,7 +73,7 @@ impl Automaton {
     /// cost is that of `accepts`, and one more pass over the text.
     pub fn accepts_treated(&self, white_space: WhiteSpace, text: &str) -> bool
         ensures { (r : Regex) → ArePositionsOf r self.now.first (positions_of self.now)
-            → IsTrue result ↔ Matches r (chars (treated white_space text.now)) }
+            → IsTrue result ↔ Denotes r (chars (treated white_space text.now)) }
     {
         if let WhiteSpace::Preserve = white_space {
             return self.accepts(text);

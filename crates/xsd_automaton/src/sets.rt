@@ -1,7 +1,7 @@
 // A table of sets of positions, which texts are judged by.
 ghost use Rattle.std.specs.Prelude.{◌≡◌, ◌<◌, ◌≤◌, ◌↔◌, ◌++◌, ◌∷◌, [], ℕ, List, IfSome, IsTrue, length, option_copied, slice_get, slice_index_or};
 ghost use Rattle.std.specs.Str.{chars};
-ghost use Rattle.rng_model.specs.regexes.Expressions.{Matches, Regex};
+ghost use Rattle.rng_model.specs.regexes.Expressions.{Denotes, Regex};
 ghost use Rattle.xsd_regex.specs.plain.Positions.{ArePositionsOf, Position};
 ghost use Rattle.xsd_automaton.specs.plain.BegunChars.{AreBegun};
 ghost use Rattle.xsd_automaton.specs.plain.Sets.{no_set};
@@ -36,7 +36,7 @@ pub(crate) struct SetTable {
 // Whether the text is accepted, by one look-up for each byte. The sets say so unless the text leads to one that has no row.
 pub(crate) fn accepts_by_sets(sets: &SetTable, text: &str) -> Option<bool>
     ensures { (ps : List Position) (first : ℕ) (r : Regex) → AreTables ps first sets.now.rows.items sets.now.ends.items → ArePositionsOf r first ps
-        → IfSome result (λ b. IsTrue b ↔ Matches r (chars text.now)) }
+        → IfSome result (λ b. IsTrue b ↔ Denotes r (chars text.now)) }
 {
     match set_behind(sets.rows.as_slice(), 0, text) {
         Some(set) => is_end(sets, set),
@@ -47,7 +47,7 @@ pub(crate) fn accepts_by_sets(sets: &SetTable, text: &str) -> Option<bool>
 // whether the end is in the set with this number, if that has a row
 pub(crate) fn is_end(sets: &SetTable, set: usize) -> Option<bool>
     ensures { (ps : List Position) (first : ℕ) (r : Regex) (tables : AreTables ps first sets.now.rows.items sets.now.ends.items) (read : List ℕ)
-        → ArePositionsOf r first ps → LeadsToSet ps first sets.now.rows.items tables.table set read → IfSome result (λ b. IsTrue b ↔ Matches r read) }
+        → ArePositionsOf r first ps → LeadsToSet ps first sets.now.rows.items tables.table set read → IfSome result (λ b. IsTrue b ↔ Denotes r read) }
 {
     end_of(sets.ends.as_slice(), set)
 }

@@ -2,7 +2,7 @@
 ghost use Rattle.std.specs.Prelude.{◌≡◌, ◌<◌, ◌≤◌, ◌↔◌, IsTrue, ℕ, [], length, All};
 ghost use Rattle.std.specs.Option.{option_to_list};
 ghost use Rattle.std.specs.Str.{chars};
-ghost use Rattle.rng_model.specs.regexes.Expressions.{Matches, Regex, holds};
+ghost use Rattle.rng_model.specs.regexes.Expressions.{Denotes, Regex, holds};
 ghost use Rattle.xsd_regex.specs.plain.StateTable.{Has};
 ghost use Rattle.xsd_regex.specs.plain.Positions.{ArePositionsOf};
 ghost use Rattle.xsd_automaton.specs.plain.Closures.{AcceptTheSame, AreWithin, IsClosed, LeadsTo, StepsTo, has_number, next_at, nexts, with_all};
@@ -21,7 +21,7 @@ pub(crate) fn accepts_from_first(positions: &Positions, text: &str) -> bool
     requires within { AreWithin (positions_of positions.now) }
     requires room { length (positions_of positions.now) < 12289 }
     requires first { positions.now.first ≤ length (positions_of positions.now) }
-    ensures { (r : Regex) → ArePositionsOf r positions.now.first (positions_of positions.now) → IsTrue result ↔ Matches r (chars text.now) }
+    ensures { (r : Regex) → ArePositionsOf r positions.now.first (positions_of positions.now) → IsTrue result ↔ Denotes r (chars text.now) }
 {
     let mut reached = Reached::new();
     let mut nexts = ArrayVec::new();

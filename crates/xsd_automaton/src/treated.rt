@@ -2,7 +2,7 @@
 ghost use Rattle.std.specs.Prelude.{◌≡◌, ◌<◌, ◌≤◌, ◌↔◌, ◌++◌, ℕ, List, IfSome, IsTrue, length, take, true, false};
 ghost use Rattle.std.specs.List.{list_all};
 ghost use Rattle.std.specs.Str.{IsCharBoundary, IsUtf8, chars};
-ghost use Rattle.rng_model.specs.regexes.Expressions.{Matches, Regex};
+ghost use Rattle.rng_model.specs.regexes.Expressions.{Denotes, Regex};
 ghost use Rattle.xsd_regex.specs.plain.Positions.{ArePositionsOf, Position};
 ghost use Rattle.rng_model.specs.plain.BlankRuns.{is_run_byte};
 ghost use Rattle.xsd_automaton.specs.declared.white_space.WhiteSpace.{WhiteSpace};
@@ -26,7 +26,7 @@ pub(crate) fn accepts_treated_by_sets(
     text: &str,
 ) -> Option<bool>
     ensures { (ps : List Position) (first : ℕ) (r : Regex) → AreTables ps first sets.now.rows.items sets.now.ends.items → ArePositionsOf r first ps
-        → IfSome result (λ b. IsTrue b ↔ Matches r (chars (treated white_space text.now))) }
+        → IfSome result (λ b. IsTrue b ↔ Denotes r (chars (treated white_space text.now))) }
 {
     let rows = sets.rows.as_slice();
     let mut set = 0;
@@ -104,7 +104,7 @@ pub(crate) fn accepts_treated_from_first(
     requires room { length (positions_of positions.now) < 12289 }
     requires first { positions.now.first ≤ length (positions_of positions.now) }
     ensures { (r : Regex) → ArePositionsOf r positions.now.first (positions_of positions.now)
-        → IsTrue result ↔ Matches r (chars (treated white_space text.now)) }
+        → IsTrue result ↔ Denotes r (chars (treated white_space text.now)) }
 {
     let mut reached = Reached::new();
     let mut nexts = ArrayVec::new();

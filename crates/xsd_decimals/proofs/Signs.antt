@@ -15,7 +15,8 @@ use Rattle.std.proofs.lemmas.Str.Parse.{digits_value_short}
 use Rattle.rng_model.specs.datatypes.Texts.{has_bytes}
 use Rattle.rng_model.specs.xsd.Numbers.{are_digits}
 use Rattle.rng_types.proofs.Decimals.{own}
-use Rattle.rng_model.specs.xsd.primitives.Decimals.{Decimal, IsCanonical, significant, signed, scaled, same_decimal}
+use Rattle.rng_model.specs.xsd.primitives.Decimals.{Decimal, significant, signed, scaled}
+use Rattle.rng_model.specs.plain.OneDecimal.{IsCanonical, same_decimal}
 use Rattle.rng_model.specs.xsd.primitives.Decimals.{decimal_with, has_total_digits}
 use Rattle.xsd_values.proofs.OneDecimal.{abs_negated, one_decimal}
 use Rattle.xsd_values.proofs.SameValues.{decimal_is, decimal_self}

@@ -1,6 +1,7 @@
 // Decimals that texts write.
 ghost use Rattle.std.specs.Prelude.{◌≡◌};
-ghost use Rattle.rng_model.specs.xsd.primitives.Decimals.{decimals, same_decimal, has_total_digits, has_fraction_digits};
+ghost use Rattle.rng_model.specs.xsd.primitives.Decimals.{decimals, has_total_digits, has_fraction_digits};
+ghost use Rattle.rng_model.specs.plain.OneDecimal.{same_decimal};
 
 use crate::number::{self, Number};
 use crate::reading::read_number;

@@ -1,7 +1,8 @@
 // Numbers as a sign, digits before the point and digits behind it.
 ghost use Rattle.std.specs.Prelude.{◌≡◌, ◌*◌, ◌^◌, int_le, int_lt, length, true, false};
 ghost use Rattle.std.specs.Ordering.{int_cmp, nat_cmp};
-ghost use Rattle.rng_model.specs.xsd.primitives.Decimals.{same_decimal, scaled, has_total_digits, has_fraction_digits};
+ghost use Rattle.rng_model.specs.xsd.primitives.Decimals.{scaled, has_total_digits, has_fraction_digits};
+ghost use Rattle.rng_model.specs.plain.OneDecimal.{same_decimal};
 ghost use Rattle.xsd_decimals.specs.plain.Numbers.{AreWhole, AreFraction, IsNumber, value_of, size_of};
 
 use std::cmp::Ordering;

@@ -2,10 +2,10 @@
 use Rattle.std.proofs.Common.{◌≡◌, ◌∙◌, ◌↔◌, ◌<◌, ◌≤◌, ℕ, List, Bool, true, false, Option, Some, None, MatchOption, nat_le, refl, sym, ap, subst, tests, arith}
 use Rattle.std.specs.Option.{option_and_then}
 use Rattle.std.specs.Str.{chars}
-use Rattle.rng_model.specs.regexes.Expressions.{Regex, Matches}
+use Rattle.rng_model.specs.regexes.Expressions.{Regex, Denotes}
 use Rattle.rng_model.specs.regexes.ExpressionGrammar.{IsRegex}
 use Rattle.xsd_regex.specs.views.Readings.{IsNoRegex}
-use Rattle.rng_model.specs.regexes.plain.Postfix.{size, most_size}
+use Rattle.rng_model.specs.regexes.Sizes.{size, most_size}
 use Rattle.rng_model.specs.regexes.plain.Decided.{regex_of, is_match}
 use Rattle.rng_model.specs.regexes.Patterns.{if_small, pattern_of}
 use Rattle.xsd_regex.proofs.Decided.{regexes_are_decided, matches_are_decided}
@@ -51,7 +51,7 @@ same_truth false true h = h.1 refl
 same_truth false false h = refl
 
 -- what an expression that is taken matches
-pub matched_by : (text : List ℕ) (r : Regex) (s : List ℕ) (b : Bool) → pattern_of text ≡ Some r → ((b ≡ true) ↔ Matches r (chars s))
+pub matched_by : (text : List ℕ) (r : Regex) (s : List ℕ) (b : Bool) → pattern_of text ≡ Some r → ((b ≡ true) ↔ Denotes r (chars s))
     → b ≡ is_matched text s
 matched_by text r s b taken h =
     let m = matches_are_decided r (chars s) in

@@ -6,7 +6,8 @@ use Rattle.std.specs.Option.{option_and_then}
 use Rattle.std.proofs.lemmas.Bool.{cases_lt, lt-leb}
 use Rattle.std.proofs.lemmas.List.{append_assoc, append-nil, length-append, take_at, drop_at}
 use Rattle.rng_model.specs.regexes.Expressions.{Class, Regex, nothing_more, one_of, both, either, times}
-use Rattle.rng_model.specs.regexes.plain.Postfix.{Row, nothing_row, class_row, both_row, either_row, times_row, postfix, size, most_copies, most_size}
+use Rattle.rng_model.specs.regexes.plain.Postfix.{nothing_row, class_row, both_row, either_row, times_row, Row, postfix}
+use Rattle.rng_model.specs.regexes.Sizes.{size, most_copies, most_size}
 use Rattle.xsd_positions.specs.declared.drafts.Kind.{Kind}
 use Rattle.xsd_positions.specs.declared.drafts.Kind.TheVariants as kind
 use Rattle.xsd_positions.specs.plain.Trees as tree

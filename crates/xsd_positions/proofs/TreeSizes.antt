@@ -5,7 +5,7 @@ use Rattle.std.specs.Prelude.{nat_le}
 use Rattle.std.proofs.lemmas.List.{length-append}
 use Rattle.std.proofs.Math.Nat.{suc-mul, zero-mul, add-mul, mul-le-mul_right, mul_left_comm, mul-add}
 use Rattle.rng_model.specs.regexes.Expressions.{Regex, nothing_more, one_of, both, either, times}
-use Rattle.rng_model.specs.regexes.plain.Postfix.{size, most_copies}
+use Rattle.rng_model.specs.regexes.Sizes.{size, most_copies}
 use Rattle.xsd_positions.specs.declared.drafts.Kind.TheVariants as kind
 use Rattle.xsd_positions.specs.plain.Trees as tree
 use Rattle.xsd_positions.specs.plain.Trees.{Tree}

@@ -4,7 +4,8 @@ use Rattle.std.specs.Option.{option_map}
 use Rattle.std.proofs.lemmas.Bool.{cases_lt}
 use Rattle.std.proofs.lemmas.List.{append-nil}
 use Rattle.rng_model.specs.regexes.Expressions.{Regex}
-use Rattle.rng_model.specs.regexes.plain.Postfix.{Row, postfix, size, most_size}
+use Rattle.rng_model.specs.regexes.Sizes.{size, most_size}
+use Rattle.rng_model.specs.regexes.plain.Postfix.{Row, postfix}
 use Rattle.xsd_regex.specs.plain.Positions.{ArePositionsOf}
 use Rattle.xsd_positions.specs.declared.drafts.Kind.{Kind}
 use Rattle.xsd_positions.specs.declared.position.Position.{Position}

@@ -4,7 +4,7 @@ use Rattle.std.proofs.Common.{Option, Some, None, refl, sym, ap, subst, arith, l
 use Rattle.std.specs.Prelude.{nat_le}
 use Rattle.std.proofs.lemmas.List.{append_assoc}
 use Rattle.rng_model.specs.regexes.Expressions.{no_char, Regex, nothing_more, one_of, both, either, times}
-use Rattle.rng_model.specs.regexes.Expressions.{Matches, nothing_is, one_is, both_are, first_is, second_is, so_often, AreCopies, no_copy, copy_and}
+use Rattle.rng_model.specs.regexes.Expressions.{Denotes, nothing_is, one_is, both_are, first_is, second_is, so_often, AreCopies, no_copy, copy_and}
 use Rattle.xsd_positions.specs.plain.WrittenOut.{copies_then, at_most, counted, written_out}
 
 -- ---- copies
@@ -39,17 +39,17 @@ copies_apart (copy_and {n = k} {s = u} first others parts) (suc n) m e =
       parts = parts ∙ ap (λ l. u ++ l) r.parts ∙ sym (append_assoc u r.front r.back);
     }
 
-module _ (a b : Regex) (to : (s : List ℕ) → Matches a s → Matches b s) where
+module _ (a b : Regex) (to : (s : List ℕ) → Denotes a s → Denotes b s) where
   copies_to : {n : ℕ} {s : List ℕ} → AreCopies a n s → AreCopies b n s
   copies_to no_copy = no_copy
   copies_to (copy_and {s = u} first others parts) = copy_and (to u first) (copies_to others) parts
 
 -- ---- copies that are written out
 
-then_in : {a : Regex} {n : ℕ} {front : List ℕ} (rest : Regex) (back s : List ℕ) → AreCopies a n front → Matches rest back → s ≡ front ++ back
-    → Matches (copies_then n a rest) s
+then_in : {a : Regex} {n : ℕ} {front : List ℕ} (rest : Regex) (back s : List ℕ) → AreCopies a n front → Denotes rest back → s ≡ front ++ back
+    → Denotes (copies_then n a rest) s
 unfolding copies_then
-then_in rest back s no_copy m e = subst (Matches rest) (sym e) m
+then_in rest back s no_copy m e = subst (Denotes rest) (sym e) m
 then_in rest back s (copy_and {s = u} {t = v} first others parts) m e =
     both_are first (then_in rest back (v ++ back) others m refl) (e ∙ ap (λ l. l ++ back) parts ∙ append_assoc u v back)
 
@@ -57,10 +57,10 @@ record CopiesThen (a : Regex) (n : ℕ) (rest : Regex) (s : List ℕ) : Type 0 w
   front : List ℕ
   back : List ℕ
   copies : AreCopies a n front
-  then : Matches rest back
+  then : Denotes rest back
   parts : s ≡ front ++ back
 
-then_out : (n : ℕ) (a rest : Regex) (s : List ℕ) → Matches (copies_then n a rest) s → CopiesThen a n rest s
+then_out : (n : ℕ) (a rest : Regex) (s : List ℕ) → Denotes (copies_then n a rest) s → CopiesThen a n rest s
 unfolding copies_then
 then_out zero a rest s m = record { front = []; back = s; copies = no_copy; then = m; parts = refl }
 then_out (suc n) a rest s (both_are {s = u} {t = v} p q e) =
@@ -73,7 +73,7 @@ then_out (suc n) a rest s (both_are {s = u} {t = v} p q e) =
       parts = e ∙ ap (λ l. u ++ l) r.parts ∙ sym (append_assoc u r.front r.back);
     }
 
-most_in : (k : ℕ) {a : Regex} {j : ℕ} {s : List ℕ} → AreCopies a j s → j ≤ k → Matches (at_most k a) s
+most_in : (k : ℕ) {a : Regex} {j : ℕ} {s : List ℕ} → AreCopies a j s → j ≤ k → Denotes (at_most k a) s
 unfolding at_most
 most_in zero no_copy l = nothing_is
 most_in zero (copy_and first others parts) l = absurd (omega arith)
@@ -85,7 +85,7 @@ record CopiesUpTo (a : Regex) (k : ℕ) (s : List ℕ) : Type 0 where
   copies : AreCopies a number s
   within : number ≤ k
 
-most_out : (k : ℕ) (a : Regex) (s : List ℕ) → Matches (at_most k a) s → CopiesUpTo a k s
+most_out : (k : ℕ) (a : Regex) (s : List ℕ) → Denotes (at_most k a) s → CopiesUpTo a k s
 unfolding at_most
 most_out zero a _ nothing_is = record { number = 0; copies = no_copy; within = omega arith }
 most_out (suc k) a _ (first_is nothing_is) = record { number = 0; copies = no_copy; within = omega arith }
@@ -95,7 +95,7 @@ most_out (suc k) a s (second_is (both_are {t = v} p q e)) =
 
 -- ---- counts
 
-counted_in : (n : ℕ) (m : Option ℕ) (a : Regex) (s : List ℕ) → Matches (times n m a) s → Matches (counted n m a) s
+counted_in : (n : ℕ) (m : Option ℕ) (a : Regex) (s : List ℕ) → Denotes (times n m a) s → Denotes (counted n m a) s
 counted_in n None a s (so_often j copies least most) =
     let parts : Apart a n (j - n) s = copies_apart copies n (j - n) (omega arith) in
     then_in (times 0 None a) parts.back s parts.first (so_often (j - n) parts.second (omega arith) tt) parts.parts
@@ -104,11 +104,11 @@ counted_in n (Some m) a s (so_often j copies least most) =
     let parts : Apart a n (j - n) s = copies_apart copies n (j - n) (omega arith) in
     rw (le-leb n m fits) (then_in (at_most (m - n) a) parts.back s parts.first (most_in (m - n) parts.second (omega arith)) parts.parts)
 
-no_char_matches : (s : List ℕ) → Matches (one_of no_char) s → ⊥
+no_char_matches : (s : List ℕ) → Denotes (one_of no_char) s → ⊥
 no_char_matches s (one_is h) = absurd (cc)
 
 up_to_back : (n m : ℕ) (a : Regex) (s : List ℕ) (b : Bool) → nat_le n m ≡ b
-    → Matches (cond b (copies_then n a (at_most (m - n) a)) (one_of no_char)) s → Matches (times n (Some m) a) s
+    → Denotes (cond b (copies_then n a (at_most (m - n) a)) (one_of no_char)) s → Denotes (times n (Some m) a) s
 up_to_back n m a s false e h = absurd (no_char_matches s h)
 up_to_back n m a s true e h =
     let fits : n ≤ m = leb-true n m e in
@@ -117,21 +117,21 @@ up_to_back n m a s true e h =
     let w : q.number ≤ m - n = q.within in
     so_often (n + q.number) (copies_join r.copies q.number (n + q.number) r.back s q.copies refl r.parts) (omega arith) (omega arith)
 
-from_back : (n : ℕ) (a : Regex) (front back s : List ℕ) → AreCopies a n front → Matches (times 0 None a) back → s ≡ front ++ back
-    → Matches (times n None a) s
+from_back : (n : ℕ) (a : Regex) (front back s : List ℕ) → AreCopies a n front → Denotes (times 0 None a) back → s ≡ front ++ back
+    → Denotes (times n None a) s
 from_back n a front back s copies (so_often j more least most) e =
     so_often (n + j) (copies_join copies j (n + j) back s more refl e) (omega arith) tt
 
-counted_back : (n : ℕ) (m : Option ℕ) (a : Regex) (s : List ℕ) → Matches (counted n m a) s → Matches (times n m a) s
+counted_back : (n : ℕ) (m : Option ℕ) (a : Regex) (s : List ℕ) → Denotes (counted n m a) s → Denotes (times n m a) s
 counted_back n None a s h = let r = then_out n a (times 0 None a) s h in from_back n a r.front r.back s r.copies r.then r.parts
 counted_back n (Some m) a s h = up_to_back n m a s (nat_le n m) refl h
 
-part_back : (n : ℕ) (m : Option ℕ) (a b : Regex) → ((s : List ℕ) → Matches a s → Matches b s) → (s : List ℕ) → Matches (times n m a) s → Matches (times n m b) s
+part_back : (n : ℕ) (m : Option ℕ) (a b : Regex) → ((s : List ℕ) → Denotes a s → Denotes b s) → (s : List ℕ) → Denotes (times n m a) s → Denotes (times n m b) s
 part_back n m a b to s (so_often j copies least most) = so_often j (copies_to a b to copies) least most
 
 -- ---- expressions
 
-pub written_if : (r : Regex) (s : List ℕ) → Matches r s → Matches (written_out r) s
+pub written_if : (r : Regex) (s : List ℕ) → Denotes r s → Denotes (written_out r) s
 unfolding written_out
 written_if nothing_more s m = m
 written_if (one_of k) s m = m
@@ -140,7 +140,7 @@ written_if (either a b) s (first_is p) = first_is (written_if a s p)
 written_if (either a b) s (second_is q) = second_is (written_if b s q)
 written_if (times n m a) s h = counted_in n m (written_out a) s (part_back n m a (written_out a) (written_if a) s h)
 
-pub written_then : (r : Regex) (s : List ℕ) → Matches (written_out r) s → Matches r s
+pub written_then : (r : Regex) (s : List ℕ) → Denotes (written_out r) s → Denotes r s
 unfolding written_out
 written_then nothing_more s m = m
 written_then (one_of k) s m = m
@@ -149,5 +149,5 @@ written_then (either a b) s (first_is p) = first_is (written_then a s p)
 written_then (either a b) s (second_is q) = second_is (written_then b s q)
 written_then (times n m a) s h = part_back n m (written_out a) a (written_then a) s (counted_back n m (written_out a) s h)
 
-pub written_matches : (r : Regex) (s : List ℕ) → Matches r s ↔ Matches (written_out r) s
+pub written_matches : (r : Regex) (s : List ℕ) → Denotes r s ↔ Denotes (written_out r) s
 written_matches r s = (written_if r s, written_then r s)

@@ -3,7 +3,7 @@ ghost use Rattle.std.specs.Prelude.{◌≡◌, ◌+◌, ◌*◌, ◌^◌, ◌<�
 ghost use Rattle.std.specs.Option.{option_map};
 ghost use Rattle.xsd_regex.specs.views.Rows.{row_of};
 ghost use Rattle.xsd_regex.specs.views.Classes.{class_of};
-ghost use Rattle.rng_model.specs.regexes.plain.Postfix.{most_copies};
+ghost use Rattle.rng_model.specs.regexes.Sizes.{most_copies};
 ghost use Rattle.xsd_positions.specs.views.Drafts.{draft_of};
 ghost use Rattle.xsd_positions.specs.plain.Folds.{kept};
 ghost use Rattle.xsd_positions.specs.plain.Drafts.{nothing_written, written, with_row, with_block, with_leaf, with_class, with_pair, with_count};

@@ -2,7 +2,8 @@
 ghost use Rattle.std.specs.Prelude.{◌≡◌, ◌<◌, ◌≤◌, IfOk, IfSome, MatchOption, length, map};
 ghost use Rattle.rng_model.specs.regexes.Expressions.{Regex};
 ghost use Rattle.xsd_regex.specs.views.Rows.{row_of, rows_of};
-ghost use Rattle.rng_model.specs.regexes.plain.Postfix.{postfix, size, most_size};
+ghost use Rattle.rng_model.specs.regexes.Sizes.{size, most_size};
+ghost use Rattle.rng_model.specs.regexes.plain.Postfix.{postfix};
 ghost use Rattle.xsd_regex.specs.plain.Positions.{ArePositionsOf};
 ghost use Rattle.xsd_positions.specs.views.Positions.{positions_of};
 

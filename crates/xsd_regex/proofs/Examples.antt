@@ -3,7 +3,7 @@ use Rattle.std.proofs.Common.{◌≡◌, [], ◌∷◌, ◌++◌, codes, length,
 use Rattle.std.specs.List.{list_all}
 use Rattle.ucd_category.specs.declared.GeneralCategory.TheVariants as one
 use Rattle.rng_model.specs.regexes.Expressions.{category, either_class, minus, no_char, only_char, char_from_to, holds}
-use Rattle.rng_model.specs.regexes.Expressions.{nothing_more, one_of, both, times, Matches, one_is, so_often, no_copy, copy_and}
+use Rattle.rng_model.specs.regexes.Expressions.{nothing_more, one_of, both, times, Denotes, one_is, so_often, no_copy, copy_and}
 use Rattle.rng_model.specs.regexes.Blocks.{blocks}
 use Rattle.rng_model.specs.regexes.Properties.{category_names, block_names}
 use Rattle.rng_model.specs.regexes.Symbols.{escaped, class, IsSymbol, short, has_property, AreSymbols, no_symbols, symbol_and}
@@ -30,7 +30,7 @@ a_some =
     branch (piece_and {us = []} {vs = chars_of (codes "a+")} no_piece
     (quantified {us = chars_of (codes "a")} {vs = chars_of (codes "+")} (normal {c = 0x61} refl) one_or_more refl) refl)
 
-twice_a : Matches (times 1 (Some 3) (one_of (only_char 0x61))) (codes "aa")
+twice_a : Denotes (times 1 (Some 3) (one_of (only_char 0x61))) (codes "aa")
 twice_a =
     so_often 2
     (copy_and {s = codes "a"} {t = codes "a"} (one_is {k = only_char 0x61} {c = 0x61} refl)

@@ -15,7 +15,7 @@ use Rattle.rng_model.specs.regexes.Symbols.{Symbol, char, escaped, class}
 use Rattle.rng_model.specs.regexes.ExpressionGrammar.{is_meta}
 use Rattle.xsd_regex.specs.plain.Groups.{Mark, member, ends, class_with, class_of_marks}
 use Rattle.rng_model.specs.regexes.plain.Spelling.{negated_if}
-use Rattle.rng_model.specs.regexes.plain.Postfix.{Row, nothing_row, class_row, both_row, either_row, times_row, postfix}
+use Rattle.rng_model.specs.regexes.plain.Postfix.{nothing_row, class_row, both_row, either_row, times_row, Row, postfix}
 use Rattle.rng_model.specs.regexes.plain.ClassSteps as machine
 use Rattle.rng_model.specs.regexes.plain.ClassSteps.{State, dash, is_end}
 use Rattle.rng_model.specs.regexes.plain.Machine as steps

@@ -5,7 +5,7 @@ use Rattle.std.proofs.Common.{eq-eqb, eqb-true}
 use Rattle.std.proofs.lemmas.Bool.{false_from_ne_true}
 use Rattle.std.proofs.lemmas.List.{append_assoc}
 use Rattle.rng_model.proofs.Truths.{not_both}
-use Rattle.rng_model.specs.regexes.Expressions.{Regex, nothing_more, one_of, both, either, times, Matches, one_is, both_are, first_is, second_is, so_often}
+use Rattle.rng_model.specs.regexes.Expressions.{Regex, nothing_more, one_of, both, either, times, Denotes, one_is, both_are, first_is, second_is, so_often}
 use Rattle.rng_model.specs.regexes.Expressions.{AreCopies, no_copy, copy_and}
 use Rattle.rng_model.specs.regexes.plain.LinearForms.{is_nullable, one_less, is_none_left, forms_of, forms, RegexState, AcceptsState, next_is, OneOf, Takes}
 use Rattle.xsd_regex.proofs.OneOf.{in_first, in_second, of_both, under_in, under_out, unless_in, unless_out}
@@ -29,7 +29,7 @@ pub record FirstCopy (a : Regex) (n c : ℕ) (s : List ℕ) : Type 0 where
   pub front : List ℕ
   pub back : List ℕ
   pub one_more : n ≡ suc others
-  pub first : Matches a (c ∷ front)
+  pub first : Denotes a (c ∷ front)
   pub then : AreCopies a others back
   pub parts : s ≡ front ++ back
 
@@ -38,12 +38,12 @@ first_copy c s no_copy e = absurd (cc)
 first_copy {a} c s (copy_and {n} {s = u} {t = v} m copies e) is =
     elim (head_in c s u v (is ∙ e)) [
       | inl h ↦ later h.0 (first_copy c s copies (sym h.1))
-      | inr h ↦ record { others = n; front = h.rest; back = v; one_more = refl; first = subst (Matches a) h.first m; then = copies; parts = h.parts }
+      | inr h ↦ record { others = n; front = h.rest; back = v; one_more = refl; first = subst (Denotes a) h.first m; then = copies; parts = h.parts }
     ]
   where
     later : u ≡ [] → FirstCopy a n c s → FirstCopy a (suc n) c s
     later none f =
-        let copies_then : AreCopies a n f.back = subst (λ i. AreCopies a i f.back) (sym f.one_more) (copy_and (subst (Matches a) none m) f.then refl) in
+        let copies_then : AreCopies a n f.back = subst (λ i. AreCopies a i f.back) (sym f.one_more) (copy_and (subst (Denotes a) none m) f.then refl) in
         record { others = n; front = f.front; back = f.back; one_more = refl; first = f.first; then = copies_then; parts = f.parts }
 
 -- ---- counts
@@ -65,15 +65,15 @@ more n (Some (suc x)) e h = omega (arith, h)
 -- ---- the forms of an expression
 
 module _ (c : ℕ) where
-  pub forms_if : (r : Regex) (k : RegexState) (u v s : List ℕ) → Matches r (c ∷ u) → AcceptsState k v → s ≡ u ++ v → OneOf (Takes c s) (forms_of r k)
+  pub forms_if : (r : Regex) (k : RegexState) (u v s : List ℕ) → Denotes r (c ∷ u) → AcceptsState k v → s ≡ u ++ v → OneOf (Takes c s) (forms_of r k)
   unfolding forms_of
   forms_if nothing_more k u v s m a e = elim m [ ]
   forms_if (one_of l) k _ v s (one_is h) a e = inl (h, subst (AcceptsState k) (sym e) a)
   forms_if (both p q) k u v s (both_are {s = x} {t = y} mp mq e) a parts =
       elim (head_in c u x y e) [
-        | inl h ↦ in_second _ (forms_of p (q ∷ k)) _ (under_in _ _ (forms_of q k) (nullable_if p (subst (Matches p) h.0 mp))
-            (forms_if q k u v s (subst (Matches q) h.1 mq) a parts))
-        | inr h ↦ in_first _ (forms_of p (q ∷ k)) _ (forms_if p (q ∷ k) h.rest (y ++ v) s (subst (Matches p) h.first mp) (next_is mq a refl)
+        | inl h ↦ in_second _ (forms_of p (q ∷ k)) _ (under_in _ _ (forms_of q k) (nullable_if p (subst (Denotes p) h.0 mp))
+            (forms_if q k u v s (subst (Denotes q) h.1 mq) a parts))
+        | inr h ↦ in_first _ (forms_of p (q ∷ k)) _ (forms_if p (q ∷ k) h.rest (y ++ v) s (subst (Denotes p) h.first mp) (next_is mq a refl)
             (parts ∙ ap (λ l. l ++ v) h.parts ∙ append_assoc h.rest y v))
       ]
   forms_if (either p q) k u v s (first_is m) a parts = in_first _ (forms_of p k) _ (forms_if p k u v s m a parts)
@@ -128,9 +128,9 @@ module _ (c : ℕ) where
   state_forms_if [] s a = elim a [ ]
   state_forms_if (r ∷ k) s (next_is {s = u} {t = v} m a e) =
       elim (head_in c s u v e) [
-        | inl h ↦ in_second _ (forms_of r k) _ (under_in _ _ (forms k) (nullable_if r (subst (Matches r) h.0 m))
+        | inl h ↦ in_second _ (forms_of r k) _ (under_in _ _ (forms k) (nullable_if r (subst (Denotes r) h.0 m))
             (state_forms_if k s (subst (AcceptsState k) h.1 a)))
-        | inr h ↦ in_first _ (forms_of r k) _ (forms_if r k h.rest v s (subst (Matches r) h.first m) a h.parts)
+        | inr h ↦ in_first _ (forms_of r k) _ (forms_if r k h.rest v s (subst (Denotes r) h.first m) a h.parts)
       ]
 
   pub state_forms_then : (k : RegexState) (s : List ℕ) → OneOf (Takes c s) (forms k) → AcceptsState k (c ∷ s)

@@ -2,7 +2,7 @@
 use Rattle.std.proofs.Common.{◌≡◌, ◌↔◌, ℕ, List, [], ◌∷◌, true, sym, subst, ◌∙◌, inl, inr}
 use Rattle.std.specs.List.{list_any}
 use Rattle.std.proofs.lemmas.List.{append-nil}
-use Rattle.rng_model.specs.regexes.Expressions.{Class, holds, Regex, Matches}
+use Rattle.rng_model.specs.regexes.Expressions.{Class, holds, Regex, Denotes}
 use Rattle.rng_model.specs.regexes.plain.LinearForms.{RegexState, AcceptsState, nothing_left, next_is, OneOf, forms, ends}
 use Rattle.rng_model.specs.regexes.plain.LinearForms.{rests_at, next_states, states_behind, AcceptsOne}
 use Rattle.xsd_regex.proofs.OneOf.{in_first, in_second, of_both, kept_in, passed_in, kept_out, one_to, one_test_if, one_test_then}
@@ -56,19 +56,19 @@ one_ends_then qs e = one_to (λ q. ends q ≡ true) (λ q. AcceptsState q []) qs
 
 -- ---- an expression
 
-pub alone_if : (r : Regex) (s : List ℕ) → Matches r s → AcceptsState (r ∷ []) s
+pub alone_if : (r : Regex) (s : List ℕ) → Denotes r s → AcceptsState (r ∷ []) s
 alone_if r s m = next_is m nothing_left (sym (append-nil s))
 
-pub alone_then : (r : Regex) (s : List ℕ) → AcceptsState (r ∷ []) s → Matches r s
-alone_then r s (next_is {s = u} m nothing_left e) = subst (Matches r) (sym (e ∙ append-nil u)) m
+pub alone_then : (r : Regex) (s : List ℕ) → AcceptsState (r ∷ []) s → Denotes r s
+alone_then r s (next_is {s = u} m nothing_left e) = subst (Denotes r) (sym (e ∙ append-nil u)) m
 
-pub matched_by_run : (r : Regex) (s : List ℕ) → Matches r s ↔ (list_any ends (states_behind ((r ∷ []) ∷ []) s) ≡ true)
+pub matched_by_run : (r : Regex) (s : List ℕ) → Denotes r s ↔ (list_any ends (states_behind ((r ∷ []) ∷ []) s) ≡ true)
 matched_by_run r s = (to, back) where
-  to : Matches r s → list_any ends (states_behind ((r ∷ []) ∷ []) s) ≡ true
+  to : Denotes r s → list_any ends (states_behind ((r ∷ []) ∷ []) s) ≡ true
   to m = one_ends_if (states_behind ((r ∷ []) ∷ []) s) (steps_if ((r ∷ []) ∷ []) s (inl (alone_if r s m)))
 
-  back : list_any ends (states_behind ((r ∷ []) ∷ []) s) ≡ true → Matches r s
+  back : list_any ends (states_behind ((r ∷ []) ∷ []) s) ≡ true → Denotes r s
   back e = only (steps_then ((r ∷ []) ∷ []) s (one_ends_then (states_behind ((r ∷ []) ∷ []) s) e)) where
-    only : AcceptsOne ((r ∷ []) ∷ []) s → Matches r s
+    only : AcceptsOne ((r ∷ []) ∷ []) s → Denotes r s
     only (inl a) = alone_then r s a
     only (inr h) = absurd h

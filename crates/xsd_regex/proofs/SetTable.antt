@@ -2,7 +2,7 @@
 use Rattle.std.proofs.Common.{◌≡◌, ◌↔◌, ◌<◌, ◌∙◌, ℕ, List, [], ◌∷◌, length, Bool, true, false, refl, sym}
 use Rattle.std.specs.List.{AllByRecursion}
 use Rattle.rng_model.proofs.Truths.{same_truth}
-use Rattle.rng_model.specs.regexes.Expressions.{Regex, Matches}
+use Rattle.rng_model.specs.regexes.Expressions.{Regex, Denotes}
 use Rattle.rng_model.specs.regexes.plain.LinearForms.{RegexState}
 use Rattle.xsd_regex.specs.plain.StateTable.{StateRow, IsTableOf, step_rows, run_rows, one_ends, accepts, AreSame}
 use Rattle.xsd_regex.specs.plain.SetTable.{SetRow, set_at, target_at, IsSetTable, run_sets}
@@ -58,6 +58,6 @@ module _ (rows : List StateRow) where
     sets_answer s all = run_is 0 s is.some all ∙ first_set s
 
     pub matched_by_sets : (r : Regex) (states : List RegexState) → IsTableOf r start states rows → (s : List ℕ)
-        → AllByRecursion (λ c. is_known c ≡ true) s → Matches r s ↔ ((set_at sets (run_sets group sets 0 s)).is_end ≡ true)
+        → AllByRecursion (λ c. is_known c ≡ true) s → Denotes r s ↔ ((set_at sets (run_sets group sets 0 s)).is_end ≡ true)
     matched_by_sets r states table s all =
         (λ m. sets_answer s all ∙ table_if r start states rows table s m, λ e. table_then r start states rows table s (sym (sets_answer s all) ∙ e))

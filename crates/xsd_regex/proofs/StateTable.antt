@@ -3,7 +3,7 @@ use Rattle.std.proofs.Common.{◌≡◌, ◌↔◌, ◌≤◌, ◌∙◌, ℕ, L
 use Rattle.std.specs.List.{list_any, AllByRecursion}
 use Rattle.std.proofs.lemmas.Bool.{or_left, or_right, or_cases, cases_lt}
 use Rattle.std.proofs.lemmas.List.{get_or_past}
-use Rattle.rng_model.specs.regexes.Expressions.{Class, holds, Regex, Matches}
+use Rattle.rng_model.specs.regexes.Expressions.{Class, holds, Regex, Denotes}
 use Rattle.rng_model.specs.regexes.plain.LinearForms.{RegexState, AcceptsState, OneOf, Takes, forms, rests_at, ends}
 use Rattle.xsd_regex.specs.plain.StateTable.{StateRow, last_row, row_at, state_at, forms_at, IsRowOf, IsTableOf}
 use Rattle.xsd_regex.specs.plain.StateTable.{step_rows, run_rows, one_ends, accepts, Has, AreSame}
@@ -70,23 +70,23 @@ module _ (r : Regex) (start : ℕ) (states : List RegexState) (rows : List State
   end_then : (i : ℕ) → (row_at rows i).is_end ≡ true → Accepts [] i
   end_then i e = ends_then (state_at states i) (sym (row_is i).end ∙ e)
 
-  pub table_if : (s : List ℕ) → Matches r s → accepts rows start s ≡ true
+  pub table_if : (s : List ℕ) → Denotes r s → accepts rows start s ≡ true
   table_if s m =
       one_test_if (λ i. (row_at rows i).is_end) (run_rows rows (start ∷ []) s)
       (one_to (Accepts []) (λ i. (row_at rows i).is_end ≡ true) (run_rows rows (start ∷ []) s) end_if
       (run_if (start ∷ []) s (inl (subst (λ q. AcceptsState q s) (sym is.first) (alone_if r s m)))))
 
-  pub table_then : (s : List ℕ) → accepts rows start s ≡ true → Matches r s
+  pub table_then : (s : List ℕ) → accepts rows start s ≡ true → Denotes r s
   table_then s e =
       only (run_then (start ∷ []) s
       (one_to (λ i. (row_at rows i).is_end ≡ true) (Accepts []) (run_rows rows (start ∷ []) s) end_then
       (one_test_then (λ i. (row_at rows i).is_end) (run_rows rows (start ∷ []) s) e)))
     where
-      only : OneOf (Accepts s) (start ∷ []) → Matches r s
+      only : OneOf (Accepts s) (start ∷ []) → Denotes r s
       only (inl a) = alone_then r s (subst (λ q. AcceptsState q s) is.first a)
       only (inr h) = absurd h
 
-  pub matched_by_table : (s : List ℕ) → Matches r s ↔ (accepts rows start s ≡ true)
+  pub matched_by_table : (s : List ℕ) → Denotes r s ↔ (accepts rows start s ≡ true)
   matched_by_table s = (table_if s, table_then s)
 
 -- ---- a row with the forms in their order

@@ -1,7 +1,8 @@
 -- Values that pass a test: two are equal exactly if they are the same, and one passes.
 use Rattle.std.proofs.Common.{◌≡◌, ◌&&◌, Bool, true, false, refl, ap, ◌∙◌, rules}
 use Rattle.rng_model.specs.datatypes.Texts.{Value, are_equal, same_value}
-use Rattle.rng_model.specs.xsd.primitives.Decimals.{Decimal, same_decimal}
+use Rattle.rng_model.specs.xsd.primitives.Decimals.{Decimal}
+use Rattle.rng_model.specs.plain.OneDecimal.{same_decimal}
 use Rattle.rng_model.specs.xsd.primitives.Types.{value_if}
 use Rattle.rng_model.specs.xsd.primitives.Values.{decimal}
 use Rattle.xsd_values.proofs.SameValues.{one_decimal, same_decimal_value}

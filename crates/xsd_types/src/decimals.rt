@@ -22,7 +22,7 @@ use xsd_limits::{Limits, OtherFacets};
 struct DigitFacets;
 
 impl OtherFacets for DigitFacets {
-    ghost facets = { written.digit_facets };
+    ghost facets = { written.decimal_facets };
 
     fn is_facet(param: &(String, String)) -> bool {
         match param.0.as_str() {

@@ -4,7 +4,7 @@ ghost use Rattle.rng_model.specs.datatypes.DatatypeViews.{parameter_of};
 ghost use Rattle.rng_types.specs.views.View.{lengths_of};
 ghost use Rattle.rng_model.specs.datatypes.Datatypes.{without, is_allowed_by, are_equal_by};
 ghost use Rattle.rng_model.proofs.ValueLaws as laws;
-ghost use Rattle.rng_model.specs.xsd.Datatypes.{meaning_named};
+ghost use Rattle.rng_model.specs.plain.NamedTypes.{meaning_named};
 ghost use Rattle.xsd_types.specs.views.View.{plain_meaning};
 ghost use Rattle.xsd_types.specs.views.Kinds.{ordered_maker, plain_maker, text_meaning};
 ghost use Rattle.xsd_types.specs.views.Finding.{HasFault, IsMade};

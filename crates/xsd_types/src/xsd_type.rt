@@ -3,7 +3,7 @@ ghost use Rattle.std.specs.Prelude.{◌≡◌, Some, map, IfOk, IfErr};
 ghost use Rattle.rng_model.specs.datatypes.DatatypeViews.{parameter_of};
 ghost use Rattle.rng_model.specs.datatypes.Datatypes.{is_allowed_by, are_equal_by};
 ghost use Rattle.rng_model.specs.regexes.Patterns.{other_parameters};
-ghost use Rattle.rng_model.specs.xsd.Datatypes.{meaning_named};
+ghost use Rattle.rng_model.specs.plain.NamedTypes.{meaning_named};
 ghost use Rattle.rng_model.proofs.ValueLaws as laws;
 ghost use Rattle.xsd_automaton.specs.views.WhiteSpace.{treated};
 ghost use Rattle.xsd_patterns.specs.Facet.{all_match, expressions_of};

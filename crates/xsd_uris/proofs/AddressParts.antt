@@ -3,7 +3,7 @@ use Rattle.std.proofs.Common.{◌≡◌, ℕ, List, [], ◌∷◌, ◌++◌, Boo
 use Rattle.std.proofs.Common.{refl, sym, ap, subst, ◌∙◌, inl, inr}
 use Rattle.std.proofs.lemmas.Bool.{and_parts, or_cases, not-true, not-false, false≢true, eqb-true, cond-true, cond-false}
 use Rattle.std.proofs.lemmas.List.{append_assoc, append-nil}
-use Rattle.rng_model.specs.regexes.Expressions.{nothing_more, both, Matches, both_are, first_is, second_is, one_is}
+use Rattle.rng_model.specs.regexes.Expressions.{nothing_more, both, Denotes, both_are, first_is, second_is, one_is}
 use Rattle.rng_model.specs.xsd.UriCharacters.{in_order, optional, the, digit}
 use Rattle.rng_model.specs.xsd.Uris.{port, ipv6_address, host, hostport, userinfo, server, authority, abs_path, net_path}
 use Rattle.xsd_uris.specs.plain.UriShapes.{is, none, is_bracket, is_digit, is_hex, before, from, is_address, is_path_or_nothing, is_port_and_path, is_behind_address}
@@ -20,29 +20,29 @@ use Rattle.xsd_uris.proofs.AddressTests.{no_digit}
 
 -- ---- to the grammar
 
-user_then : (s : List ℕ) → User s → Matches (optional (in_order (userinfo ∷ the 0x40 ∷ []))) s
-user_then s (no_user e) = subst (Matches _) (sym e) (optional_none _)
+user_then : (s : List ℕ) → User s → Denotes (optional (in_order (userinfo ∷ the 0x40 ∷ []))) s
+user_then s (no_user e) = subst (Denotes _) (sym e) (optional_none _)
 user_then s (a_user name t e) =
     optional_one _ s (both_are (text_many ends_user _ user_leaf name t) (last_from (the 0x40) (0x40 ∷ []) (the_from 0x40)) e)
 
-port_then : (s : List ℕ) → Port s → Matches (optional (in_order (the 0x3A ∷ port ∷ []))) s
-port_then s (no_port e) = subst (Matches _) (sym e) (optional_none _)
+port_then : (s : List ℕ) → Port s → Denotes (optional (in_order (the 0x3A ∷ port ∷ []))) s
+port_then s (no_port e) = subst (Denotes _) (sym e) (optional_none _)
 port_then s (a_port digits m e) =
-    subst (Matches _) (sym e) (optional_one _ (0x3A ∷ digits) (before_the 0x3A (both port nothing_more) digits (last_from port digits m)))
+    subst (Denotes _) (sym e) (optional_one _ (0x3A ∷ digits) (before_the 0x3A (both port nothing_more) digits (last_from port digits m)))
 
-pub path_then : (s : List ℕ) → Path s → Matches (optional abs_path) s
-path_then s (no_path e) = subst (Matches _) (sym e) (optional_none abs_path)
-path_then s (a_path rest t e) = subst (Matches (optional abs_path)) (sym e) (optional_one abs_path (0x2F ∷ rest) (text_abs_path rest t))
+pub path_then : (s : List ℕ) → Path s → Denotes (optional abs_path) s
+path_then s (no_path e) = subst (Denotes _) (sym e) (optional_none abs_path)
+path_then s (a_path rest t e) = subst (Denotes (optional abs_path)) (sym e) (optional_one abs_path (0x2F ∷ rest) (text_abs_path rest t))
 
 module _ (s : List ℕ) (a : Addressed s) where
-  hosts : Matches host (0x5B ∷ (a.address ++ 0x5D ∷ []))
+  hosts : Denotes host (0x5B ∷ (a.address ++ 0x5D ∷ []))
   hosts = second_is (second_is (first_is (before_the 0x5B (in_order (ipv6_address ∷ the 0x5D ∷ [])) (a.address ++ 0x5D ∷ [])
       (both_are a.is_ipv6 (last_from (the 0x5D) (0x5D ∷ []) (the_from 0x5D)) refl))))
 
   located_host : List ℕ
   located_host = (0x5B ∷ (a.address ++ 0x5D ∷ [])) ++ a.ports
 
-  server_is : Matches server (a.user ++ located_host)
+  server_is : Denotes server (a.user ++ located_host)
   unfolding located_host
   server_is = optional_one _ _ (both_are (user_then a.user a.is_user)
       (last_from hostport _ (both_are hosts (last_from (optional (in_order (the 0x3A ∷ port ∷ []))) a.ports (port_then a.ports a.is_port)) refl)) refl)
@@ -52,7 +52,7 @@ module _ (s : List ℕ) (a : Addressed s) where
   joined = a.whole ∙ ap (λ x. a.user ++ 0x5B ∷ x) (sym (append_assoc a.address (0x5D ∷ []) (a.ports ++ a.path)) ∙ sym (append_assoc (a.address ++ 0x5D ∷ []) a.ports a.path))
       ∙ sym (append_assoc a.user ((0x5B ∷ (a.address ++ 0x5D ∷ [])) ++ a.ports) a.path)
 
-  pub addressed_then : Matches net_path (0x2F ∷ 0x2F ∷ s)
+  pub addressed_then : Denotes net_path (0x2F ∷ 0x2F ∷ s)
   addressed_then =
       before_the 0x2F (in_order (the 0x2F ∷ authority ∷ optional abs_path ∷ [])) (0x2F ∷ s)
       (before_the 0x2F (in_order (authority ∷ optional abs_path ∷ [])) s
@@ -72,7 +72,7 @@ path_text_from s t n =
           (none_or (is 0x23) is_bracket s (none_right (is 0x3F) (is 0x23) s t.others) n);
     }
 
-digits_from : (s : List ℕ) → none no_digit s ≡ true → Matches port s
+digits_from : (s : List ℕ) → none no_digit s ≡ true → Denotes port s
 digits_from [] h = many_none digit
 digits_from (c ∷ s) h =
     let f = and_parts (not (no_digit c)) (none no_digit s) h in
@@ -157,7 +157,7 @@ port_and_path (c ∷ s) t h = by (is 0x3A c) refl where
 record HostAndPath (s : List ℕ) : Type 0 where
   address : List ℕ
   behind : List ℕ
-  is_ipv6 : Matches ipv6_address address
+  is_ipv6 : Denotes ipv6_address address
   tail : PortAndPath behind
   whole : s ≡ address ++ 0x5D ∷ behind
 

@@ -3,7 +3,7 @@ use Rattle.std.proofs.Common.{◌≡◌, ℕ, List, [], ◌∷◌, ◌++◌, Boo
 use Rattle.std.proofs.Common.{refl, sym, ap, ◌∙◌}
 use Rattle.std.proofs.lemmas.Bool.{and_from, or_right}
 use Rattle.std.proofs.lemmas.List.{append-nil}
-use Rattle.rng_model.specs.regexes.Expressions.{Matches, one_is}
+use Rattle.rng_model.specs.regexes.Expressions.{Denotes, one_is}
 use Rattle.rng_model.specs.xsd.UriCharacters.{digit}
 use Rattle.rng_model.specs.xsd.Uris.{port, ipv6_address}
 use Rattle.xsd_uris.specs.plain.UriShapes.{is, none, is_bracket, is_digit, before, from, is_address, is_path_or_nothing, is_port_and_path, is_behind_address}
@@ -57,13 +57,13 @@ module _ (s : List ℕ) (t : IsText ends_user s) where
 abbrev pub no_digit : ℕ → Bool
 no_digit d = not (is_digit d)
 
-pub digits_none : (s : List ℕ) → Matches port s → none no_digit s ≡ true
+pub digits_none : (s : List ℕ) → Denotes port s → none no_digit s ≡ true
 digits_none = times_keep (λ s. none no_digit s ≡ true) refl (all_join (λ c. not (no_digit c))) _ _ digit one where
   twice : (b : Bool) → b ≡ true → (not (not b) && true) ≡ true
   twice true h = refl
   twice false h = h
 
-  one : (s : List ℕ) → Matches digit s → none no_digit s ≡ true
+  one : (s : List ℕ) → Denotes digit s → none no_digit s ≡ true
   one _ (one_is {c} h) = twice (is_digit c) h
 
 -- ---- the tests

@@ -4,7 +4,7 @@ use Rattle.std.proofs.Common.{refl, sym, ap, subst, ◌∙◌, inl, inr}
 use Rattle.std.proofs.lemmas.Bool.{and_from, and_parts, or_cases, or_left, or_right, not-true, not_from_false, false≢true, eqb-true}
 use Rattle.std.proofs.lemmas.List.{append_assoc}
 use Rattle.std.proofs.lemmas.List.Splits.{slice_split_none}
-use Rattle.rng_model.specs.regexes.Expressions.{Regex, nothing_more, both, Matches, both_are, first_is, second_is}
+use Rattle.rng_model.specs.regexes.Expressions.{Regex, nothing_more, both, Denotes, both_are, first_is, second_is}
 use Rattle.rng_model.specs.xsd.UriCharacters.{in_order, optional, the}
 use Rattle.rng_model.specs.xsd.Uris.{hexseq, hexpart, embedded_address, ipv6_address}
 use Rattle.xsd_uris.specs.plain.UriShapes.{is, none, is_nothing, is_dotted, are_four, is_sequence, is_hex_sequence, is_colon_and_dotted}
@@ -23,11 +23,11 @@ use Rattle.xsd_uris.proofs.Doubles.{is_single, seq_single, before_single, behind
 abbrev MaybeGroups : List ℕ → Type 0
 MaybeGroups s = (s ≡ []) ⊎ Seq IsGroup s
 
-maybe_groups : (s : List ℕ) → Matches (optional hexseq) s → MaybeGroups s
+maybe_groups : (s : List ℕ) → Denotes (optional hexseq) s → MaybeGroups s
 maybe_groups s m = elim (optional_is hexseq s m) [ inl e ↦ inl e | inr h ↦ inr (hexseq_if s h) ]
 
-groups_maybe : (s : List ℕ) → MaybeGroups s → Matches (optional hexseq) s
-groups_maybe s (inl e) = subst (Matches (optional hexseq)) (sym e) (optional_none hexseq)
+groups_maybe : (s : List ℕ) → MaybeGroups s → Denotes (optional hexseq) s
+groups_maybe s (inl e) = subst (Denotes (optional hexseq)) (sym e) (optional_none hexseq)
 groups_maybe s (inr h) = optional_one hexseq s (hexseq_then h)
 
 -- groups, `::`, and what is behind it
@@ -35,13 +35,13 @@ record DoubleThen (r : Regex) (s : List ℕ) : Type 0 where
   front : List ℕ
   back : List ℕ
   groups : MaybeGroups front
-  then : Matches r back
+  then : Denotes r back
   whole : s ≡ front ++ 0x3A ∷ 0x3A ∷ back
 
 abbrev doubled : Regex → Regex
 doubled r = in_order (optional hexseq ∷ the 0x3A ∷ the 0x3A ∷ r ∷ [])
 
-double_then : (r : Regex) (s : List ℕ) → Matches (doubled r) s → DoubleThen r s
+double_then : (r : Regex) (s : List ℕ) → Denotes (doubled r) s → DoubleThen r s
 double_then r s (both_are {s = u} {t} p q e) =
     let b : Behind 0x3A (both (the 0x3A) (both r nothing_more)) t = the_before 0x3A _ t q in
     let d : Behind 0x3A (both r nothing_more) b.rest = the_before 0x3A _ b.rest b.matched in
@@ -53,7 +53,7 @@ double_then r s (both_are {s = u} {t} p q e) =
       whole = e ∙ ap (λ x. u ++ x) (b.whole ∙ ap (λ x. 0x3A ∷ x) d.whole);
     }
 
-then_double : (r : Regex) (u t : List ℕ) → MaybeGroups u → Matches r t → Matches (doubled r) (u ++ 0x3A ∷ 0x3A ∷ t)
+then_double : (r : Regex) (u t : List ℕ) → MaybeGroups u → Denotes r t → Denotes (doubled r) (u ++ 0x3A ∷ 0x3A ∷ t)
 then_double r u t g m =
     both_are (groups_maybe u g)
     (before_the 0x3A (both (the 0x3A) (both r nothing_more)) (0x3A ∷ t) (before_the 0x3A (both r nothing_more) t (last_from r t m)))
@@ -90,7 +90,7 @@ a_double s u t g h e =
     ap is_address e ∙ ap (λ x. is_address_of x (behind_double (u ++ 0x3A ∷ 0x3A ∷ t))) (before_first u t (maybe_single u g))
     ∙ ap (is_address_of u) (behind_first u t (maybe_single u g)) ∙ and_from _ _ (maybe_hex u g) h
 
-groups_not_dotted : (s : List ℕ) → Matches hexseq s → is_dotted s ≡ false
+groups_not_dotted : (s : List ℕ) → Denotes hexseq s → is_dotted s ≡ false
 groups_not_dotted s m =
     let t = plain_text (is 0x2E) hexseq refl s m in ap are_four (slice_split_none (is 0x2E) s (none_all (is 0x2E) s t.others))
 
@@ -121,7 +121,7 @@ numbers_behind u t s g h v d e =
       by (inl n) = subst (λ x. Passes (x ++ 0x3A ∷ v)) (sym n) colon_first
       by (inr k) = a_sequence (t ++ 0x3A ∷ v) (dotted_are (then_dotted k v (t ++ 0x3A ∷ v) d refl))
 
-part_if : (s : List ℕ) → Matches hexpart s → is_address s ≡ true
+part_if : (s : List ℕ) → Denotes hexpart s → is_address s ≡ true
 part_if s (first_is m) = let q = hexseq_if s m in no_double s (groups_single q) (groups_are q) (groups_not_dotted s m)
 part_if s (second_is m) =
     let d = double_then (optional hexseq) s (only_is (doubled (optional hexseq)) s m) in
@@ -130,7 +130,7 @@ part_if s (second_is m) =
       by t (inl e) = or_left _ _ (ap is_nothing e)
       by t (inr h) = a_sequence t (groups_are h)
 
-numbers_if : (u v s : List ℕ) → Matches hexpart u → IsDotted v → s ≡ u ++ 0x3A ∷ v → is_address s ≡ true
+numbers_if : (u v s : List ℕ) → Denotes hexpart u → IsDotted v → s ≡ u ++ 0x3A ∷ v → is_address s ≡ true
 numbers_if u v s (first_is m) d e =
     let q = then_dotted (hexseq_if u m) v s d e in
     no_double s (seq_single IsDotted dotted_no_colon some_dotted q) (dotted_are q) (last_not_dotted s u v e)
@@ -138,7 +138,7 @@ numbers_if u v s (second_is m) d e =
     let f = double_then (optional hexseq) u (only_is (doubled (optional hexseq)) u m) in
     numbers_behind f.front f.back s f.groups (maybe_groups f.back f.then) v d (e ∙ ap (λ x. x ++ 0x3A ∷ v) f.whole)
 
-pub address_if : (s : List ℕ) → Matches ipv6_address s → is_address s ≡ true
+pub address_if : (s : List ℕ) → Denotes ipv6_address s → is_address s ≡ true
 address_if s (first_is m) = part_if s m
 address_if s (second_is (first_is (both_are {s = u} {t} p q e))) =
     let b : Behind 0x3A (both embedded_address nothing_more) t = the_before 0x3A _ t q in
@@ -150,38 +150,38 @@ address_if s (second_is (second_is m)) =
 
 -- ---- to the grammar
 
-with_numbers : (u v : List ℕ) → Matches hexpart u → IsDotted v → Matches ipv6_address (u ++ 0x3A ∷ v)
+with_numbers : (u v : List ℕ) → Denotes hexpart u → IsDotted v → Denotes ipv6_address (u ++ 0x3A ∷ v)
 with_numbers u v m d =
     second_is (first_is (both_are m (before_the 0x3A (both embedded_address nothing_more) v (last_from embedded_address v (dotted_then v d))) refl))
 
-double_part : (u t : List ℕ) → MaybeGroups u → MaybeGroups t → Matches hexpart (u ++ 0x3A ∷ 0x3A ∷ t)
+double_part : (u t : List ℕ) → MaybeGroups u → MaybeGroups t → Denotes hexpart (u ++ 0x3A ∷ 0x3A ∷ t)
 double_part u t g h = second_is (first_is (then_double (optional hexseq) u t g (groups_maybe t h)))
 
-single_then : (s : List ℕ) → is_sequence s ≡ true → is_dotted s ≡ false → Matches ipv6_address s
+single_then : (s : List ℕ) → is_sequence s ≡ true → is_dotted s ≡ false → Denotes ipv6_address s
 single_then s h n = elim (sequence_is s h) [
   | inl q ↦ first_is (first_is (hexseq_then q))
   | inr q ↦ elim (dotted_last q) [
     | inl d ↦ absurd (false≢true (sym n ∙ d))
-    | inr d ↦ subst (Matches ipv6_address) (sym d.whole) (with_numbers d.front d.numbers (first_is (hexseq_then d.groups)) d.dotted)
+    | inr d ↦ subst (Denotes ipv6_address) (sym d.whole) (with_numbers d.front d.numbers (first_is (hexseq_then d.groups)) d.dotted)
   ]
 ]
 
-sequence_behind : (u t : List ℕ) → MaybeGroups u → is_sequence t ≡ true → Matches ipv6_address (u ++ 0x3A ∷ 0x3A ∷ t)
+sequence_behind : (u t : List ℕ) → MaybeGroups u → is_sequence t ≡ true → Denotes ipv6_address (u ++ 0x3A ∷ 0x3A ∷ t)
 sequence_behind u t g h = elim (sequence_is t h) [
   | inl q ↦ first_is (double_part u t g (inr q))
   | inr q ↦ elim (dotted_last q) [
     | inl d ↦ second_is (second_is (first_is (then_double embedded_address u t g (dotted_then t d))))
-    | inr d ↦ subst (Matches ipv6_address)
+    | inr d ↦ subst (Denotes ipv6_address)
         (append_assoc u (0x3A ∷ 0x3A ∷ d.front) (0x3A ∷ d.numbers) ∙ ap (λ x. u ++ 0x3A ∷ 0x3A ∷ x) (sym d.whole))
         (with_numbers (u ++ 0x3A ∷ 0x3A ∷ d.front) d.numbers (double_part u d.front g (inr d.groups)) d.dotted)
   ]
 ]
 
-colon_behind : (u t : List ℕ) → MaybeGroups u → is_colon_and_dotted t ≡ true → Matches ipv6_address (u ++ 0x3A ∷ 0x3A ∷ t)
+colon_behind : (u t : List ℕ) → MaybeGroups u → is_colon_and_dotted t ≡ true → Denotes ipv6_address (u ++ 0x3A ∷ 0x3A ∷ t)
 colon_behind u [] g h = absurd (false≢true h)
 colon_behind u (c ∷ t) g h =
     let f = and_parts (is 0x3A c) (is_dotted t) h in
-    subst (Matches ipv6_address)
+    subst (Denotes ipv6_address)
     (append_assoc u (0x3A ∷ 0x3A ∷ []) (0x3A ∷ t) ∙ ap (λ x. u ++ 0x3A ∷ 0x3A ∷ x ∷ t) (sym (eqb-true c 0x3A f.0)))
     (with_numbers (u ++ 0x3A ∷ 0x3A ∷ []) t (double_part u [] g (inl refl)) f.1)
 
@@ -192,7 +192,7 @@ nothing_in (c ∷ s) h = absurd (false≢true h)
 hex_maybe : (s : List ℕ) → (is_nothing s || is_hex_sequence s) ≡ true → MaybeGroups s
 hex_maybe s h = elim (or_cases (is_nothing s) (is_hex_sequence s) h) [ inl e ↦ inl (nothing_in s e) | inr e ↦ inr (hex_seq s e) ]
 
-double_then_is : (u t : List ℕ) → is_address_of u (Some t) ≡ true → Matches ipv6_address (u ++ 0x3A ∷ 0x3A ∷ t)
+double_then_is : (u t : List ℕ) → is_address_of u (Some t) ≡ true → Denotes ipv6_address (u ++ 0x3A ∷ 0x3A ∷ t)
 double_then_is u t h =
     let f = and_parts (is_nothing u || is_hex_sequence u) (is_nothing t || (is_sequence t || is_colon_and_dotted t)) h in
     let g = hex_maybe u f.0 in
@@ -201,13 +201,13 @@ double_then_is u t h =
       | inr e ↦ elim (or_cases (is_sequence t) (is_colon_and_dotted t) e) [ inl k ↦ sequence_behind u t g k | inr k ↦ colon_behind u t g k ]
     ]
 
-pub address_then : (s : List ℕ) → is_address s ≡ true → Matches ipv6_address s
+pub address_then : (s : List ℕ) → is_address s ≡ true → Denotes ipv6_address s
 address_then s h = by (double_of s) where
-  by : Double s → Matches ipv6_address s
+  by : Double s → Denotes ipv6_address s
   by (single a b) =
       let k : (is_sequence s && not (is_dotted s)) ≡ true = sym (ap (λ x. is_address_of x (behind_double s)) a ∙ ap (is_address_of s) b) ∙ h in
       let f = and_parts (is_sequence s) (not (is_dotted s)) k in
       single_then s f.0 (not-true _ f.1)
   by (double u t a b e) =
       let k : is_address_of u (Some t) ≡ true = sym (ap (λ x. is_address_of x (behind_double s)) a ∙ ap (is_address_of u) b) ∙ h in
-      subst (Matches ipv6_address) (sym e) (double_then_is u t k)
+      subst (Denotes ipv6_address) (sym e) (double_then_is u t k)

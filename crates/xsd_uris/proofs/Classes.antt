@@ -3,7 +3,7 @@ use Rattle.std.proofs.Common.{◌≡◌, ◌≤◌, ℕ, Bool, true, false, ◌|
 use Rattle.std.proofs.Common.{List, [], ◌∷◌, sym, subst}
 use Rattle.std.specs.Prelude.{codes, Option}
 use Rattle.std.proofs.lemmas.Bool.{or_from}
-use Rattle.rng_model.specs.regexes.Expressions.{Regex, nothing_more, both, either, times, Matches, first_is, second_is}
+use Rattle.rng_model.specs.regexes.Expressions.{Regex, nothing_more, both, either, times, Denotes, first_is, second_is}
 use Rattle.rng_model.specs.xsd.UriCharacters.{unreserved, escaped, uric, uric_no_slash, pchar, any_of, one_in, the}
 use Rattle.xsd_uris.specs.plain.UriShapes.{is, is_bracket}
 use Rattle.xsd_uris.proofs.Escapes.{is_char, IsText, no_text, texts_join, text_of_char}
@@ -116,19 +116,19 @@ name_leaf = record {
 -- ---- texts of parts
 
 module _ (p : ℕ → Bool) where
-  pub both_text : (a b : Regex) → ((s : List ℕ) → Matches a s → IsText p s) → ((s : List ℕ) → Matches b s → IsText p s)
-      → (s : List ℕ) → Matches (both a b) s → IsText p s
+  pub both_text : (a b : Regex) → ((s : List ℕ) → Denotes a s → IsText p s) → ((s : List ℕ) → Denotes b s → IsText p s)
+      → (s : List ℕ) → Denotes (both a b) s → IsText p s
   both_text = both_keep (IsText p) (no_text p) (texts_join p)
 
-  pub either_text : (a b : Regex) → ((s : List ℕ) → Matches a s → IsText p s) → ((s : List ℕ) → Matches b s → IsText p s)
-      → (s : List ℕ) → Matches (either a b) s → IsText p s
+  pub either_text : (a b : Regex) → ((s : List ℕ) → Denotes a s → IsText p s) → ((s : List ℕ) → Denotes b s → IsText p s)
+      → (s : List ℕ) → Denotes (either a b) s → IsText p s
   either_text = either_keep (IsText p) (no_text p) (texts_join p)
 
-  pub times_text : (n : ℕ) (o : Option ℕ) (r : Regex) → ((s : List ℕ) → Matches r s → IsText p s) → (s : List ℕ) → Matches (times n o r) s → IsText p s
+  pub times_text : (n : ℕ) (o : Option ℕ) (r : Regex) → ((s : List ℕ) → Denotes r s → IsText p s) → (s : List ℕ) → Denotes (times n o r) s → IsText p s
   times_text = times_keep (IsText p) (no_text p) (texts_join p)
 
-  pub nothing_text : (s : List ℕ) → Matches nothing_more s → IsText p s
+  pub nothing_text : (s : List ℕ) → Denotes nothing_more s → IsText p s
   nothing_text = nothing_keep (IsText p) (no_text p) (texts_join p)
 
-  pub the_text : (c : ℕ) → is 0x25 c ≡ false → is_char c ≡ true → p c ≡ false → (s : List ℕ) → Matches (the c) s → IsText p s
+  pub the_text : (c : ℕ) → is 0x25 c ≡ false → is_char c ≡ true → p c ≡ false → (s : List ℕ) → Denotes (the c) s → IsText p s
   the_text c e k h s m = subst (IsText p) (sym (the_is c s m)) (text_of_char p c e k h)

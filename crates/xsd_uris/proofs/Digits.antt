@@ -6,7 +6,7 @@ use Rattle.std.specs.List.{list_all, slice_split, All, join_with_byte}
 use Rattle.std.proofs.lemmas.Bool.{and_from, and_parts, or_cases, not-true, not_from_false, false≢true, agree_below}
 use Rattle.std.proofs.lemmas.List.Elements.{All-nil, All-cons}
 use Rattle.std.proofs.lemmas.List.Splits.{slice_split_none, slice_split_at, join_with_byte-slice_split}
-use Rattle.rng_model.specs.regexes.Expressions.{Class, holds, Regex, one_of, both, times, Matches, one_is, both_are, so_often, AreCopies, no_copy, copy_and}
+use Rattle.rng_model.specs.regexes.Expressions.{Class, holds, Regex, one_of, both, times, Denotes, one_is, both_are, so_often, AreCopies, no_copy, copy_and}
 use Rattle.rng_model.specs.xsd.UriCharacters.{the}
 use Rattle.rng_model.specs.xsd.Uris.{up_to_three_digits, embedded_address}
 use Rattle.xsd_uris.specs.plain.UriShapes.{is, none, is_digit, is_hex, is_of_digits, is_group, is_number, is_dotted, are_four}
@@ -25,12 +25,12 @@ copies_of : (k : Class) (s : List ℕ) → list_all (holds k) s ≡ true → Are
 copies_of k [] h = no_copy
 copies_of k (c ∷ s) h = let f = and_parts (holds k c) (list_all (holds k) s) h in copy_and (one_is f.0) (copies_of k s f.1) refl
 
-pub digits_if : (k : Class) (most : ℕ) (s : List ℕ) → Matches (times 1 (Some most) (one_of k)) s → is_of_digits (holds k) most s ≡ true
+pub digits_if : (k : Class) (most : ℕ) (s : List ℕ) → Denotes (times 1 (Some most) (one_of k)) s → is_of_digits (holds k) most s ≡ true
 digits_if k most s (so_often n copies low high) =
     let r = copies_all k copies in
     and_from _ _ r.0 (and_from _ _ (le-leb 1 (length s) (omega (arith, r.1))) (le-leb (length s) most (omega (arith, r.1))))
 
-pub digits_then : (k : Class) (most : ℕ) (s : List ℕ) → is_of_digits (holds k) most s ≡ true → Matches (times 1 (Some most) (one_of k)) s
+pub digits_then : (k : Class) (most : ℕ) (s : List ℕ) → is_of_digits (holds k) most s ≡ true → Denotes (times 1 (Some most) (one_of k)) s
 digits_then k most s h =
     let f = and_parts (list_all (holds k) s) (nat_le 1 (length s) && nat_le (length s) most) h in
     let g = and_parts (nat_le 1 (length s)) (nat_le (length s) most) f.1 in
@@ -77,18 +77,18 @@ record NumberThen (r : Regex) (s : List ℕ) : Type 0 where
   front : List ℕ
   rest : List ℕ
   number : is_number front ≡ true
-  then : Matches r rest
+  then : Denotes r rest
   parts : s ≡ front ++ 0x2E ∷ rest
 
-number_then : (r : Regex) (s : List ℕ) → Matches (both up_to_three_digits (both (the 0x2E) r)) s → NumberThen r s
+number_then : (r : Regex) (s : List ℕ) → Denotes (both up_to_three_digits (both (the 0x2E) r)) s → NumberThen r s
 number_then r s (both_are {s = u} {t} p q e) =
     let b : Behind 0x2E r t = the_before 0x2E r t q in
     record { front = u; rest = b.rest; number = digits_if _ 3 u p; then = b.matched; parts = e ∙ ap (λ x. u ++ x) b.whole }
 
-then_number : (r : Regex) (u s : List ℕ) → is_number u ≡ true → Matches r s → Matches (both up_to_three_digits (both (the 0x2E) r)) (u ++ 0x2E ∷ s)
+then_number : (r : Regex) (u s : List ℕ) → is_number u ≡ true → Denotes r s → Denotes (both up_to_three_digits (both (the 0x2E) r)) (u ++ 0x2E ∷ s)
 then_number r u s h m = both_are (digits_then _ 3 u h) (before_the 0x2E r s m) refl
 
-four_if : (s : List ℕ) → Matches embedded_address s → Four s
+four_if : (s : List ℕ) → Denotes embedded_address s → Four s
 four_if s m =
     let f = number_then _ s m in
     let g = number_then _ f.rest f.then in
@@ -105,8 +105,8 @@ four_if s m =
       whole = f.parts ∙ ap (λ x. f.front ++ 0x2E ∷ x) (g.parts ∙ ap (λ x. g.front ++ 0x2E ∷ x) h.parts);
     }
 
-four_then : (s : List ℕ) → Four s → Matches embedded_address s
-four_then s f = subst (Matches embedded_address) (sym f.whole)
+four_then : (s : List ℕ) → Four s → Denotes embedded_address s
+four_then s f = subst (Denotes embedded_address) (sym f.whole)
     (then_number _ f.a _ f.first (then_number _ f.b _ f.second (then_number _ f.c _ f.third (last_from up_to_three_digits f.d (digits_then _ 3 f.d f.fourth)))))
 
 at_stop : (u s : List ℕ) → is_number u ≡ true → slice_split (is 0x2E) (u ++ 0x2E ∷ s) ≡ u ∷ slice_split (is 0x2E) s
@@ -143,8 +143,8 @@ dotted_four s h = by (slice_split (is 0x2E) s) refl h where
       }
   by (a ∷ b ∷ c ∷ d ∷ x ∷ ls) e k = absurd (false≢true k)
 
-pub dotted_if : (s : List ℕ) → Matches embedded_address s → is_dotted s ≡ true
+pub dotted_if : (s : List ℕ) → Denotes embedded_address s → is_dotted s ≡ true
 dotted_if s m = four_dotted s (four_if s m)
 
-pub dotted_then : (s : List ℕ) → is_dotted s ≡ true → Matches embedded_address s
+pub dotted_then : (s : List ℕ) → is_dotted s ≡ true → Denotes embedded_address s
 dotted_then s h = four_then s (dotted_four s h)

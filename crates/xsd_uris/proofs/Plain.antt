@@ -4,7 +4,7 @@ use Rattle.std.specs.Prelude.{nat_le}
 use Rattle.std.specs.List.{list_all}
 use Rattle.std.proofs.lemmas.Bool.{and_parts, or_cases, or_parts, and_cases, false≢true, agree_below, agree_below_at}
 use Rattle.rng_model.specs.names.Names.{is_in_ranges}
-use Rattle.rng_model.specs.regexes.Expressions.{ranges, Class, holds, Regex, nothing_more, one_of, both, either, times, Matches, one_is}
+use Rattle.rng_model.specs.regexes.Expressions.{ranges, Class, holds, Regex, nothing_more, one_of, both, either, times, Denotes, one_is}
 use Rattle.xsd_uris.specs.plain.UriShapes.{is}
 use Rattle.xsd_uris.proofs.Escapes.{IsText, text_of_char}
 use Rattle.xsd_uris.proofs.Classes.{both_text, either_text, times_text, nothing_text}
@@ -43,10 +43,10 @@ module _ (p : ℕ → Bool) where
         ]
   class_text _ h c k = absurd (false≢true h)
 
-  pub plain_text : (r : Regex) → is_plain p r ≡ true → (s : List ℕ) → Matches r s → IsText p s
+  pub plain_text : (r : Regex) → is_plain p r ≡ true → (s : List ℕ) → Denotes r s → IsText p s
   plain_text nothing_more h = nothing_text p
   plain_text (one_of k) h = by where
-    by : (s : List ℕ) → Matches (one_of k) s → IsText p s
+    by : (s : List ℕ) → Denotes (one_of k) s → IsText p s
     by _ (one_is {c} e) = class_text k h c e
   plain_text (both a b) h =
       let f = and_parts (is_plain p a) (is_plain p b) h in both_text p a b (plain_text a f.0) (plain_text b f.1)

@@ -3,7 +3,7 @@ use Rattle.std.proofs.Common.{◌≡◌, ℕ, List, [], ◌∷◌, ◌++◌, tru
 use Rattle.std.proofs.Common.{refl, sym, ap, subst, ◌∙◌, inl, inr}
 use Rattle.std.proofs.lemmas.Bool.{and_parts, or_cases, or_left, or_right, false≢true, eqb-true}
 use Rattle.std.proofs.lemmas.List.{append-nil}
-use Rattle.rng_model.specs.regexes.Expressions.{Regex, nothing_more, both, Matches, both_are, first_is, second_is}
+use Rattle.rng_model.specs.regexes.Expressions.{Regex, nothing_more, both, Denotes, both_are, first_is, second_is}
 use Rattle.rng_model.specs.xsd.UriCharacters.{in_order, any_of, optional, the, uric}
 use Rattle.rng_model.specs.xsd.Uris.{ipv6_address, query, abs_path, net_path}
 use Rattle.xsd_uris.specs.plain.UriShapes.{is, none, is_bracket, is_hex, before, from, is_user, is_host_and_path, is_bracketed, is_rooted}
@@ -60,24 +60,24 @@ addressed_root s rest a e =
 abbrev pub rooted : Regex
 rooted = any_of (net_path ∷ abs_path ∷ [])
 
-pub rooted_if : (s : List ℕ) → Matches rooted s → FromRoot s
+pub rooted_if : (s : List ℕ) → Denotes rooted s → FromRoot s
 rooted_if s (first_is m) = let n = net_path_if s m in by n.rest n.network n.whole where
   by : (t : List ℕ) → Network t → s ≡ 0x2F ∷ 0x2F ∷ t → FromRoot s
   by t (plain k) e = plain_root s (0x2F ∷ t) (slash_text t k) e
   by t (addressed a) e = addressed_root s t a e
 rooted_if s (second_is m) = let r = abs_path_text s (only_is abs_path s m) in plain_root s r.rest r.text r.whole
 
-bracketed_then : (s : List ℕ) → IsText no_query s → is_bracketed s ≡ true → Matches net_path s
+bracketed_then : (s : List ℕ) → IsText no_query s → is_bracketed s ≡ true → Denotes net_path s
 bracketed_then [] t h = absurd (false≢true h)
 bracketed_then (a ∷ []) t h = absurd (false≢true h)
 bracketed_then (a ∷ b ∷ s) t h =
     let f = and_parts (is 0x2F a && is 0x2F b) (is_user (before (is 0x5B) s) && is_host_and_path (from (is 0x5B) s)) h in
     let g = and_parts (is 0x2F a) (is 0x2F b) f.0 in
     let k = and_parts (is_user (before (is 0x5B) s)) (is_host_and_path (from (is 0x5B) s)) f.1 in
-    subst (Matches net_path) (ap (λ x. x ∷ 0x2F ∷ s) (sym (eqb-true a 0x2F g.0)) ∙ ap (λ x. a ∷ x ∷ s) (sym (eqb-true b 0x2F g.1)))
+    subst (Denotes net_path) (ap (λ x. x ∷ 0x2F ∷ s) (sym (eqb-true a 0x2F g.0)) ∙ ap (λ x. a ∷ x ∷ s) (sym (eqb-true b 0x2F g.1)))
     (addressed_then s (addressed_from s (text_behind no_query (a ∷ b ∷ []) s t) k.0 k.1))
 
-pub rooted_then : (s : List ℕ) → IsText no_query (0x2F ∷ s) → is_rooted (0x2F ∷ s) ≡ true → Matches rooted (0x2F ∷ s)
+pub rooted_then : (s : List ℕ) → IsText no_query (0x2F ∷ s) → is_rooted (0x2F ∷ s) ≡ true → Denotes rooted (0x2F ∷ s)
 rooted_then s t h = elim (or_cases (none is_bracket (0x2F ∷ s)) (is_bracketed (0x2F ∷ s)) h) [
   | inl n ↦ second_is (first_is (text_abs_path s (path_text_from s (text_behind no_query (0x2F ∷ []) s t) n)))
   | inr b ↦ first_is (bracketed_then (0x2F ∷ s) t b)
@@ -93,7 +93,7 @@ pub data Query (s : List ℕ) : Type 0 where
   no_query_behind : s ≡ [] → Query s
   a_query : (rest : List ℕ) → IsText ends_query rest → s ≡ 0x3F ∷ rest → Query s
 
-query_if : (s : List ℕ) → Matches (optional some_query) s → Query s
+query_if : (s : List ℕ) → Denotes (optional some_query) s → Query s
 query_if s m = elim (optional_is some_query s m) [
   | inl e ↦ no_query_behind e
   | inr h ↦
@@ -101,20 +101,20 @@ query_if s m = elim (optional_is some_query s m) [
       a_query b.rest (many_text ends_query uric uric_leaf b.rest (last_is query b.rest b.matched)) b.whole
 ]
 
-query_then : (s : List ℕ) → Query s → Matches (optional some_query) s
-query_then s (no_query_behind e) = subst (Matches (optional some_query)) (sym e) (optional_none some_query)
+query_then : (s : List ℕ) → Query s → Denotes (optional some_query) s
+query_then s (no_query_behind e) = subst (Denotes (optional some_query)) (sym e) (optional_none some_query)
 query_then s (a_query rest t e) =
-    subst (Matches (optional some_query)) (sym e)
+    subst (Denotes (optional some_query)) (sym e)
     (optional_one some_query (0x3F ∷ rest) (before_the 0x3F (both query nothing_more) rest (last_from query rest (text_many ends_query uric uric_leaf rest t))))
 
 -- a text without `?`, and a query
 pub record WithQuery (r : Regex) (s : List ℕ) : Type 0 where
   pub front : List ℕ
-  pub matched : Matches r front
+  pub matched : Denotes r front
   pub text : IsText ends_query s
   pub before_is : before (is 0x3F) s ≡ front
 
-pub with_query_if : (r : Regex) → ((s : List ℕ) → Matches r s → IsText no_query s) → (s : List ℕ) → Matches (in_order (r ∷ optional some_query ∷ [])) s → WithQuery r s
+pub with_query_if : (r : Regex) → ((s : List ℕ) → Denotes r s → IsText no_query s) → (s : List ℕ) → Denotes (in_order (r ∷ optional some_query ∷ [])) s → WithQuery r s
 with_query_if r inside s (both_are {s = u} {t = v} p q e) = by (inside u p) (query_if v (last_is (optional some_query) v q)) where
   calm : IsText no_query u → none (is 0x3F) u ≡ true
   calm t = none_left (is 0x3F) (is 0x23) u t.others
@@ -139,13 +139,13 @@ with_query_if r inside s (both_are {s = u} {t = v} p q e) = by (inside u p) (que
         before_is = ap (before (is 0x3F)) same ∙ before_cut (is 0x3F) u 0x3F rest (calm t) refl;
       }
 
-pub with_query_then : (r : Regex) (s : List ℕ) → IsText ends_query s → (IsText no_query (before (is 0x3F) s) → Matches r (before (is 0x3F) s))
-    → Matches (in_order (r ∷ optional some_query ∷ [])) s
+pub with_query_then : (r : Regex) (s : List ℕ) → IsText ends_query s → (IsText no_query (before (is 0x3F) s) → Denotes r (before (is 0x3F) s))
+    → Denotes (in_order (r ∷ optional some_query ∷ [])) s
 with_query_then r s t matched = by (cut (is 0x3F) s) where
-  joined : (u v : List ℕ) → Matches r u → Query v → s ≡ u ++ v → Matches (in_order (r ∷ optional some_query ∷ [])) s
+  joined : (u v : List ℕ) → Denotes r u → Query v → s ≡ u ++ v → Denotes (in_order (r ∷ optional some_query ∷ [])) s
   joined u v m q e = both_are m (last_from (optional some_query) v (query_then v q)) e
 
-  by : Cut (is 0x3F) s → Matches (in_order (r ∷ optional some_query ∷ [])) s
+  by : Cut (is 0x3F) s → Denotes (in_order (r ∷ optional some_query ∷ [])) s
   by (whole w) =
       let same : before (is 0x3F) s ≡ s = before_whole (is 0x3F) s w in
       joined (before (is 0x3F) s) [] (matched (subst (IsText no_query) (sym same) (text_or ends_query (is 0x3F) s t w))) (no_query_behind refl)

@@ -7,7 +7,7 @@ use Rattle.std.proofs.lemmas.Bool.{and_from, and_parts, or_cases, or_left, or_ri
 use Rattle.std.proofs.lemmas.List.{append-nil}
 use Rattle.std.proofs.lemmas.Str.{scalars-chars}
 use Rattle.std.proofs.Math.Utf8.{scalar, scalars, scalar_cases}
-use Rattle.rng_model.specs.regexes.Expressions.{Regex, nothing_more, both, Matches, both_are, first_is, second_is}
+use Rattle.rng_model.specs.regexes.Expressions.{Regex, nothing_more, both, Denotes, both_are, first_is, second_is}
 use Rattle.rng_model.specs.regexes.plain.Decided.{is_match}
 use Rattle.rng_model.specs.xsd.UriCharacters.{in_order, any_of, optional, the, uric}
 use Rattle.rng_model.specs.xsd.Uris.{fragment, absolute_uri, relative_uri, uri_reference, is_uri}
@@ -39,17 +39,17 @@ data Fragment (s : List ℕ) : Type 0 where
 
 -- ---- from the grammar
 
-front_if : (s : List ℕ) → Matches (optional uris) s → Front s
+front_if : (s : List ℕ) → Denotes (optional uris) s → Front s
 front_if s m = elim (optional_is uris s m) [
   | inl e ↦ record { text = subst (IsText ends_query) (sym e) (no_text ends_query); passes = or_left (is_relative s) (is_absolute s) (ap is_relative e) }
   | inr h ↦ one h
 ] where
-  one : Matches uris s → Front s
+  one : Denotes uris s → Front s
   one (first_is h) = let a = absolute_if s h in record { text = a.text; passes = or_right (is_relative s) (is_absolute s) a.passes }
   one (second_is h) =
       let r = relative_if s (only_is relative_uri s h) in record { text = r.text; passes = or_left (is_relative s) (is_absolute s) r.passes }
 
-fragment_if : (s : List ℕ) → Matches (optional some_fragment) s → Fragment s
+fragment_if : (s : List ℕ) → Denotes (optional some_fragment) s → Fragment s
 fragment_if s m = elim (optional_is some_fragment s m) [
   | inl e ↦ no_fragment e
   | inr h ↦
@@ -74,31 +74,31 @@ shape_of s u v f (a_fragment rest t g) e =
       same : s ≡ u ++ 0x23 ∷ rest
       same = e ∙ ap (λ x. u ++ x) g
 
-pub shape_if : (s : List ℕ) → Matches uri_reference s → has_uri_shape s ≡ true
+pub shape_if : (s : List ℕ) → Denotes uri_reference s → has_uri_shape s ≡ true
 shape_if s (both_are {s = u} {t = v} p q e) = shape_of s u v (front_if u p) (fragment_if v (last_is (optional some_fragment) v q)) e
 
 -- ---- to the grammar
 
-front_then : (s : List ℕ) → IsText ends_query s → (is_relative s || is_absolute s) ≡ true → Matches (optional uris) s
+front_then : (s : List ℕ) → IsText ends_query s → (is_relative s || is_absolute s) ≡ true → Denotes (optional uris) s
 front_then s t h = optional_one uris s (elim (or_cases (is_relative s) (is_absolute s) h) [
   | inl r ↦ second_is (first_is (relative_then s t r))
   | inr a ↦ first_is (absolute_then s t a)
 ])
 
-fragment_then : (s : List ℕ) → IsText ends_query s → Matches (optional some_fragment) (0x23 ∷ s)
+fragment_then : (s : List ℕ) → IsText ends_query s → Denotes (optional some_fragment) (0x23 ∷ s)
 fragment_then s t =
     optional_one some_fragment (0x23 ∷ s) (before_the 0x23 (both fragment nothing_more) s (last_from fragment s (text_many ends_query uric uric_leaf s t)))
 
 module _ (s : List ℕ) (bounded : list_all is_char s ≡ true) where
   from_parts : are_escapes_whole s ≡ true → (is_relative (before (is 0x23) s) || is_absolute (before (is 0x23) s)) ≡ true
-      → is_fragment (from (is 0x23) s) ≡ true → Cut (is 0x23) s → Matches uri_reference s
+      → is_fragment (from (is 0x23) s) ≡ true → Cut (is 0x23) s → Denotes uri_reference s
   from_parts h a b (whole w) =
       let same : before (is 0x23) s ≡ s = before_whole (is 0x23) s w in
       both_are (front_then s (record { escapes = h; chars = bounded; others = w }) (sym (ap (λ x. is_relative x || is_absolute x) same) ∙ a))
       (last_from (optional some_fragment) [] (optional_none some_fragment)) (sym (append-nil s))
   from_parts h a b (parts u c v w p e) =
       both_are (front_then u front passes)
-      (last_from (optional some_fragment) (c ∷ v) (subst (λ x. Matches (optional some_fragment) (x ∷ v)) (sym mark) (fragment_then v back))) e where
+      (last_from (optional some_fragment) (c ∷ v) (subst (λ x. Denotes (optional some_fragment) (x ∷ v)) (sym mark) (fragment_then v back))) e where
         mark : c ≡ 0x23
         mark = eqb-true c 0x23 p
 
@@ -121,7 +121,7 @@ module _ (s : List ℕ) (bounded : list_all is_char s ≡ true) where
           others = sym (ap is_fragment (ap (from (is 0x23)) e ∙ from_cut (is 0x23) u c v w p)) ∙ b;
         }
 
-  pub shape_then : has_uri_shape s ≡ true → Matches uri_reference s
+  pub shape_then : has_uri_shape s ≡ true → Denotes uri_reference s
   shape_then h =
       let f = and_parts (are_escapes_whole s) (is_reference s) h in
       let g = and_parts (is_relative (before (is 0x23) s) || is_absolute (before (is 0x23) s)) (is_fragment (from (is 0x23) s)) f.1 in

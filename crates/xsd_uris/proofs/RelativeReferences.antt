@@ -3,7 +3,7 @@ use Rattle.std.proofs.Common.{◌≡◌, ℕ, List, [], ◌∷◌, ◌++◌, Boo
 use Rattle.std.proofs.Common.{refl, sym, ap, subst, ◌∙◌, inl, inr}
 use Rattle.std.proofs.lemmas.Bool.{and_from, and_parts, not-true, false≢true, eqb-true, cond-true, cond-false}
 use Rattle.std.proofs.lemmas.List.{append-nil}
-use Rattle.rng_model.specs.regexes.Expressions.{Regex, Matches, both_are, first_is, second_is}
+use Rattle.rng_model.specs.regexes.Expressions.{Regex, Denotes, both_are, first_is, second_is}
 use Rattle.rng_model.specs.xsd.UriCharacters.{any_of, optional}
 use Rattle.rng_model.specs.xsd.Uris.{abs_path, net_path, rel_path, relative_uri}
 use Rattle.xsd_uris.specs.plain.UriShapes.{is, none, is_bracket, is_hex, before, is_rooted, is_path, is_relative}
@@ -57,7 +57,7 @@ segment_passes (c ∷ u) v t r =
       no_root : is 0x2F c ≡ false
       no_root = not-true _ (and_parts (not (is 0x2F c)) (none (is 0x2F) u) (no_slash (c ∷ u) t)).0
 
-rel_path_found : (s : List ℕ) → Matches rel_path s → PathFound s
+rel_path_found : (s : List ℕ) → Denotes rel_path s → PathFound s
 rel_path_found s (both_are {s = u} {t = v} p q e) =
     by (some_text ends_first _ first_leaf u p) (path_if v (last_is (optional abs_path) v q)) where
       by : IsText ends_first u → Path v → PathFound s
@@ -66,12 +66,12 @@ rel_path_found s (both_are {s = u} {t = v} p q e) =
         passes = ap is_path e ∙ segment_passes u v t r;
       }
 
-paths_found : (s : List ℕ) → Matches paths s → PathFound s
+paths_found : (s : List ℕ) → Denotes paths s → PathFound s
 paths_found s (first_is m) = root_path s (rooted_if s (first_is m))
 paths_found s (second_is (first_is m)) = root_path s (rooted_if s (second_is (first_is m)))
 paths_found s (second_is (second_is m)) = rel_path_found s (only_is rel_path s m)
 
-maybe_found : (s : List ℕ) → Matches (optional paths) s → PathFound s
+maybe_found : (s : List ℕ) → Denotes (optional paths) s → PathFound s
 maybe_found s m = elim (optional_is paths s m) [
   | inl e ↦ record { text = subst (IsText no_query) (sym e) (no_text no_query); passes = ap is_path e }
   | inr h ↦ paths_found s h
@@ -81,7 +81,7 @@ pub record Relative (s : List ℕ) : Type 0 where
   pub text : IsText ends_query s
   pub passes : is_relative s ≡ true
 
-pub relative_if : (s : List ℕ) → Matches relative_uri s → Relative s
+pub relative_if : (s : List ℕ) → Denotes relative_uri s → Relative s
 relative_if s m =
     let w : WithQuery (optional paths) s = with_query_if (optional paths) (λ u n. let f = maybe_found u n in f.text) s m in
     let f : PathFound w.front = maybe_found w.front w.matched in
@@ -93,27 +93,27 @@ first_from : (s : List ℕ) → IsText ends_path s → none (is 0x3A) s ≡ true
 first_from s t a b =
     record { escapes = t.escapes; chars = t.chars; others = none_or (is 0x3A) ends_name s a (none_or (is 0x2F) ends_path s b t.others) }
 
-in_paths : (s : List ℕ) → Matches rooted s → Matches paths s
+in_paths : (s : List ℕ) → Denotes rooted s → Denotes paths s
 in_paths s (first_is m) = first_is m
 in_paths s (second_is m) = second_is (first_is (only_is abs_path s m))
 
-rooted_path : (c : ℕ) (s : List ℕ) → IsText no_query (c ∷ s) → is 0x2F c ≡ true → is_rooted (c ∷ s) ≡ true → Matches paths (c ∷ s)
+rooted_path : (c : ℕ) (s : List ℕ) → IsText no_query (c ∷ s) → is 0x2F c ≡ true → is_rooted (c ∷ s) ≡ true → Denotes paths (c ∷ s)
 rooted_path c s t e h =
     let same : c ≡ 0x2F = eqb-true c 0x2F e in
-    subst (λ x. Matches paths (x ∷ s)) (sym same)
+    subst (λ x. Denotes paths (x ∷ s)) (sym same)
     (in_paths (0x2F ∷ s) (rooted_then s (subst (λ x. IsText no_query (x ∷ s)) same t) (subst (λ x. is_rooted (x ∷ s) ≡ true) same h)))
 
-segment_then : (u v : List ℕ) → IsText ends_first u → (u ≡ [] → ⊥) → Path v → Matches paths (u ++ v)
+segment_then : (u v : List ℕ) → IsText ends_first u → (u ≡ [] → ⊥) → Path v → Denotes paths (u ++ v)
 segment_then [] v t n r = absurd (n refl)
 segment_then (c ∷ u) v t n r =
     second_is (second_is (first_is (both_are (text_some ends_first _ first_leaf c u t) (last_from (optional abs_path) v (path_then v r)) refl)))
 
-relative_path : (c : ℕ) (s : List ℕ) → IsText ends_path (c ∷ s) → is 0x2F c ≡ false → none (is 0x3A) (before (is 0x2F) (c ∷ s)) ≡ true → Matches paths (c ∷ s)
+relative_path : (c : ℕ) (s : List ℕ) → IsText ends_path (c ∷ s) → is 0x2F c ≡ false → none (is 0x3A) (before (is 0x2F) (c ∷ s)) ≡ true → Denotes paths (c ∷ s)
 relative_path c s t e n = by (cut (is 0x2F) (c ∷ s)) where
-  by : Cut (is 0x2F) (c ∷ s) → Matches paths (c ∷ s)
+  by : Cut (is 0x2F) (c ∷ s) → Denotes paths (c ∷ s)
   by (whole w) =
       let clear : none (is 0x3A) (c ∷ s) ≡ true = sym (ap (none (is 0x3A)) (before_whole (is 0x2F) (c ∷ s) w)) ∙ n in
-      subst (Matches paths) (append-nil (c ∷ s))
+      subst (Denotes paths) (append-nil (c ∷ s))
       (segment_then (c ∷ s) [] (first_from (c ∷ s) t clear w) (λ f. cc) (no_path refl))
   by (parts front d back w p f) =
       let clear : none (is 0x3A) front ≡ true =
@@ -121,24 +121,24 @@ relative_path c s t e n = by (cut (is 0x2F) (c ∷ s)) where
       let mark : d ≡ 0x2F = eqb-true d 0x2F p in
       let here : IsText ends_path (front ++ d ∷ back) = subst (IsText ends_path) f t in
       let head : IsText ends_path front = text_front ends_path front d back (ap is_hex mark) here in
-      subst (Matches paths) (sym f)
+      subst (Denotes paths) (sym f)
       (segment_then front (d ∷ back) (first_from front head clear w) (some_front front f)
       (a_path back (text_behind ends_path (d ∷ []) back (text_behind ends_path front (d ∷ back) here)) (ap (λ x. x ∷ back) mark))) where
         some_front : (front : List ℕ) → c ∷ s ≡ front ++ d ∷ back → front ≡ [] → ⊥
         some_front [] f g = let same : c ≡ d = cc in false≢true (sym e ∙ ap (is 0x2F) same ∙ p)
         some_front (x ∷ xs) f g = cc
 
-path_is : (s : List ℕ) → IsText no_query s → is_path s ≡ true → Matches (optional paths) s
+path_is : (s : List ℕ) → IsText no_query s → is_path s ≡ true → Denotes (optional paths) s
 path_is [] t h = optional_none paths
 path_is (c ∷ s) t h = optional_one paths (c ∷ s) (by (is 0x2F c) refl) where
   Rest : Bool
   Rest = none is_bracket (c ∷ s) && none (is 0x3A) (before (is 0x2F) (c ∷ s))
 
-  by : (b : Bool) → is 0x2F c ≡ b → Matches paths (c ∷ s)
+  by : (b : Bool) → is 0x2F c ≡ b → Denotes paths (c ∷ s)
   by true e = rooted_path c s t e (sym (cond-true (is 0x2F c) (is_rooted (c ∷ s)) Rest e) ∙ h)
   by false e =
       let k = and_parts (none is_bracket (c ∷ s)) (none (is 0x3A) (before (is 0x2F) (c ∷ s))) (sym (cond-false (is 0x2F c) (is_rooted (c ∷ s)) Rest e) ∙ h) in
       relative_path c s (path_text_from (c ∷ s) t k.0) e k.1
 
-pub relative_then : (s : List ℕ) → IsText ends_query s → is_relative s ≡ true → Matches relative_uri s
+pub relative_then : (s : List ℕ) → IsText ends_query s → is_relative s ≡ true → Denotes relative_uri s
 relative_then s t h = with_query_then (optional paths) s t (λ k. path_is (before (is 0x3F) s) k h)

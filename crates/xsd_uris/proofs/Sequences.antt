@@ -5,7 +5,7 @@ use Rattle.std.specs.List.{list_all, slice_split, join_with_byte, count_by}
 use Rattle.std.proofs.lemmas.Bool.{and_from, and_parts, or_cases, or_left, or_right, false≢true}
 use Rattle.std.proofs.lemmas.List.{append-nil, append_assoc}
 use Rattle.std.proofs.lemmas.List.Splits.{slice_split_none, slice_split_at, join_with_byte-slice_split, length-slice_split}
-use Rattle.rng_model.specs.regexes.Expressions.{Regex, nothing_more, both, Matches, both_are, so_often, AreCopies, no_copy, copy_and}
+use Rattle.rng_model.specs.regexes.Expressions.{Regex, nothing_more, both, Denotes, both_are, so_often, AreCopies, no_copy, copy_and}
 use Rattle.rng_model.specs.xsd.UriCharacters.{in_order, many, the}
 use Rattle.rng_model.specs.xsd.Uris.{hex4, hexseq}
 use Rattle.xsd_uris.specs.plain.UriShapes.{is, none, is_group, is_dotted, are_groups, is_sequence, is_hex_sequence}
@@ -45,21 +45,21 @@ copies_seq g h (copy_and {s = u} {t = v} m others f) s e =
     more g (b.rest ++ v) h (copies_seq b.rest (digits_if _ 4 b.rest (last_is hex4 b.rest b.matched)) others (b.rest ++ v) refl)
     (e ∙ ap (λ x. g ++ x) (f ∙ ap (λ x. x ++ v) b.whole))
 
-pub hexseq_if : (s : List ℕ) → Matches hexseq s → Seq IsGroup s
+pub hexseq_if : (s : List ℕ) → Denotes hexseq s → Seq IsGroup s
 hexseq_if s (both_are {s = g} {t} p q e) = by t (last_is (many more_groups) t q) e where
-  by : (t : List ℕ) → Matches (many more_groups) t → s ≡ g ++ t → Seq IsGroup s
+  by : (t : List ℕ) → Denotes (many more_groups) t → s ≡ g ++ t → Seq IsGroup s
   by t (so_often n copies least most) e = copies_seq g (digits_if _ 4 g p) copies s e
 
-front_group : (g t : List ℕ) → IsGroup g → Matches hexseq t → Matches hexseq (g ++ 0x3A ∷ t)
+front_group : (g t : List ℕ) → IsGroup g → Denotes hexseq t → Denotes hexseq (g ++ 0x3A ∷ t)
 front_group g t h (both_are {s = u} {t = v} p q e) =
     both_are (digits_then _ 4 g h)
     (last_from (many more_groups) ((0x3A ∷ u) ++ v)
     (many_more more_groups (0x3A ∷ u) v (before_the 0x3A (both hex4 nothing_more) u (last_from hex4 u p)) (last_is (many more_groups) v q)))
     (ap (λ x. g ++ 0x3A ∷ x) e)
 
-pub hexseq_then : {s : List ℕ} → Seq IsGroup s → Matches hexseq s
+pub hexseq_then : {s : List ℕ} → Seq IsGroup s → Denotes hexseq s
 hexseq_then {s} (last h) = both_are (digits_then _ 4 s h) (last_from (many more_groups) [] (many_none more_groups)) (sym (append-nil s))
-hexseq_then (more g t h rest e) = subst (Matches hexseq) (sym e) (front_group g t h (hexseq_then rest))
+hexseq_then (more g t h rest e) = subst (Denotes hexseq) (sym e) (front_group g t h (hexseq_then rest))
 
 -- ---- the parts between colons
 

@@ -1,8 +1,12 @@
 -- The calendar is one: years and months follow one another without a gap.
 use Rattle.std.proofs.Common.{◌≡◌, ◌≤◌, ℕ, suc, ◌+◌, ◌-◌, ◌%◌, Bool, true, false, refl, ap, ◌∙◌, arith, not, ◌&&◌, ◌||◌, ◌==◌, cond}
+use Rattle.std.specs.Prelude.{if◌then◌else◌}
 use Rattle.std.proofs.lemmas.Bool.{eqb-true, eqb-false}
 use Rattle.std.proofs.lemmas.Bool.Decides.{nat_tests}
-use Rattle.rng_model.specs.xsd.primitives.Calendar.{year_numbered, is_leap, days_in_year, multiples_below, days_before_year, days_in_month, days_of_months, days_before}
+use Rattle.rng_model.specs.xsd.primitives.Calendar.{year_numbered, is_leap, multiples_below, days_before_year, days_in_month, days_of_months, days_before}
+
+abbrev pub days_in_year : ℕ → ℕ
+days_in_year y = if is_leap y then 366 else 365
 
 -- ---- one more multiple of k is below the next number exactly if the number is a multiple
 

@@ -9,7 +9,8 @@ use Rattle.std.specs.List.{list_all, slice_split}
 use Rattle.std.specs.Str.Parse.{digits_value, starts_with_minus, without_leading_sign}
 use Rattle.rng_model.specs.datatypes.Texts.{has_bytes}
 use Rattle.rng_model.specs.xsd.Numbers.{are_digits}
-use Rattle.rng_model.specs.xsd.primitives.Decimals.{Decimal, IsCanonical, is_point, is_zero_digit, significant, signed}
+use Rattle.rng_model.specs.xsd.primitives.Decimals.{Decimal, is_point, is_zero_digit, significant, signed}
+use Rattle.rng_model.specs.plain.OneDecimal.{IsCanonical}
 use Rattle.rng_model.specs.xsd.primitives.Decimals.{decimal_with, decimal_if, decimal_parts, decimal_of}
 use Rattle.xsd_values.proofs.OneDecimal.{abs_negated}
 

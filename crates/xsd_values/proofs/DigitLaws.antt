@@ -3,7 +3,8 @@ use Rattle.std.proofs.Common.{◌≡◌, ◌≤◌, ◌<◌, ℕ, ◌*◌, ◌^�
 use Rattle.std.proofs.Common.{ℤ, pos, ◌*ℤ◌, nat_abs, nat_le, nat_lt, mul-le-mul_left, le_of_mul-le-mul_right}
 use Rattle.std.proofs.Math.Nat.{pow-le-pow_right}
 use Rattle.std.proofs.lemmas.Bool.{and_parts, and_from, leb-true, le-leb, ltb-true, lt-ltb}
-use Rattle.rng_model.specs.xsd.primitives.Decimals.{Decimal, IsCanonical, has_total_digits, has_fraction_digits}
+use Rattle.rng_model.specs.xsd.primitives.Decimals.{Decimal, has_total_digits, has_fraction_digits}
+use Rattle.rng_model.specs.plain.OneDecimal.{IsCanonical}
 use Rattle.xsd_values.proofs.OneDecimal.{abs_times, ten_pow, no_more_places}
 
 -- the number is i / 10 ^ n

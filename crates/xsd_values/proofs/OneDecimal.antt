@@ -3,7 +3,8 @@ use Rattle.std.proofs.Common.{◌≡◌, ◌≢◌, inl, inr, ◌≤◌, ◌<◌
 use Rattle.std.proofs.Common.{ℤ, pos, negsuc, neg_ℤ, ◌*ℤ◌, nat_abs, subst, pow-suc, pow-add, mul_assoc, mul_comm}
 use Rattle.std.proofs.Math.Nat.{one-le-pow, eq_of_mul-eq-mul_right}
 use Rattle.std.proofs.lemmas.Bool.{false≢true, cases_lt}
-use Rattle.rng_model.specs.xsd.primitives.Decimals.{Decimal, IsCanonical, scaled}
+use Rattle.rng_model.specs.xsd.primitives.Decimals.{Decimal, scaled}
+use Rattle.rng_model.specs.plain.OneDecimal.{IsCanonical}
 
 -- ---- integers times a power of 10
 

@@ -8,7 +8,8 @@ use Rattle.std.proofs.lemmas.Bool.Decides.{Decides-eqb, Decides-int_eq}
 use Rattle.rng_model.specs.datatypes.Texts.{Value, text, truth, number, numbers, same_value}
 use Rattle.rng_model.proofs.Truths.{same_truth}
 use Rattle.rng_model.proofs.ValueLaws.{same_value-is, same_value-self}
-use Rattle.rng_model.specs.xsd.primitives.Decimals.{Decimal, same_decimal}
+use Rattle.rng_model.specs.xsd.primitives.Decimals.{Decimal}
+use Rattle.rng_model.specs.plain.OneDecimal.{same_decimal}
 use Rattle.rng_model.specs.xsd.primitives.Floats.{same_float}
 use Rattle.rng_model.specs.xsd.primitives.Zones.{Moment, same_moment}
 use Rattle.rng_model.specs.xsd.primitives.Durations.{Duration, same_date_part, same_time_part, same_duration}

@@ -34,7 +34,7 @@ HERE = pathlib.Path(__file__).resolve().parent
 MODELS = ("rng_model", "rnc_model", "rncv_model")
 TOUR = "docs/proof/DEFINITIONS.md"
 RUN = "rncv_run run"
-README_LINE = r"\(([\d,]+) lines in (\d+) files; for `run` alone ([\d,]+) lines in (\d+) files\)"
+README_LINE = r"\(([\d,]+) lines of code in (\d+) files; for `run` alone ([\d,]+) lines in (\d+) files\)"
 
 
 class Closure:
@@ -231,20 +231,20 @@ def order_faults(crates, listed):
 
 
 def print_by_folder(closure, whole):
-    """Prints the closure by folder: its files and their lines, and its Rust types."""
+    """Prints the closure by folder: its files and their lines of code, and its Rust types."""
     folders = collections.defaultdict(list)
     for node in sorted(closure.parent):
         folders[node.rsplit("/", 1)[0]].append(node)
     for folder, nodes in folders.items():
         lines = sum(closure.crates.lines(node) for node in nodes if is_file(node))
-        print(f"{folder}: {len(nodes)} files, {lines} lines" if is_file(nodes[0]) else f"{folder}: {len(nodes)} types")
+        print(f"{folder}: {len(nodes)} files, {lines} lines of code" if is_file(nodes[0]) else f"{folder}: {len(nodes)} types")
         for node in nodes if whole else ():
             print(f"    {node.rsplit('/', 1)[1]}" + (f" {closure.crates.lines(node)}" if is_file(node) else ""))
     print(f"believed: {Size(closure)}")
 
 
 class Size:
-    """How many files, lines and Rust types a closure has."""
+    """How many files, lines of code and Rust types a closure has."""
 
     def __init__(self, closure):
         files = [node for node in closure.parent if is_file(node)]
@@ -253,7 +253,7 @@ class Size:
         self.types = len(closure.parent) - len(files)
 
     def __str__(self):
-        return f"{self.files} files, {self.lines} lines, {self.types} Rust types"
+        return f"{self.files} files, {self.lines} lines of code, {self.types} Rust types"
 
 
 def print_by_call(top, calls, carried, decided):

@@ -254,7 +254,7 @@ class Planted(unittest.TestCase):
         self.assertIn("no sentence has the figures", self.reported().pop())
 
     def test_not_handed_on(self):
-        planted = "crates/rng_model/specs/restrictions/Restrictions.antt"
+        planted = "crates/rng_model/specs/restrictions/RestrictionFaults.antt"
         for name, old, new in (("rng_rules/src/restrictions.rt", "BreaksNone", "IsLeastRestriction"),
                                ("rncv_validator/src/validator.rt", "ensures restricted { BreaksNone ", "ensures restricted { IsLeastRestriction ")):
             file = self.top / "crates" / name

@@ -4,6 +4,7 @@ import re
 
 WORD = re.compile(r"[^\s(){}\[\],;.&<>:!?\"]+")
 USE = re.compile(r"(?:pub )?use Rattle\.([\w.\-◌]+?)(?:\.\{([^}]*)\}| as (\w+))?\s*(?:;|$)", re.M)
+IMPORT = re.compile(r"^[ \t]*(?:pub )?use [^\n{]*(?:\{[^}]*\})?[^\n]*$", re.M)
 TYPE = r"^(?: *)(?:pub(?:\([^)]*\))? )?(?:struct|enum|trait) %s\b"
 
 
@@ -29,7 +30,8 @@ class Crates:
         return self.path(f"crates/{name}/src").is_dir()
 
     def lines(self, name):
-        return self.path(name).read_text().count("\n")
+        """The number of lines of code of a file of specs: the lines that are not blank, no comment, and no import."""
+        return sum(bool(line.strip()) for line in IMPORT.sub("", self.text(name)).splitlines())
 
     def sources(self, crate):
         return sorted(str(path.relative_to(self.top)) for path in self.path(f"crates/{crate}/src").rglob("*.rt"))

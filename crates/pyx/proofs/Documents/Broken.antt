@@ -11,7 +11,7 @@ use Rattle.rng_model.specs.documents.PyxLines.{Said, QName, IsGoodLine, BreaksAl
 use Rattle.rng_model.specs.documents.PyxNamespaces.{WrittenAttribute, NamespaceScope}
 use Rattle.rng_model.specs.documents.PyxTrees.{Event}
 use Rattle.rng_model.specs.documents.PyxClauses as clauses
-use Rattle.rng_model.specs.documents.PyxClauses.{BeginsOtherwise, AreOpenTags, EndsWithTag, EndsInText, BreaksNamespaces, RepeatsName, BreaksHere, Breaks}
+use Rattle.rng_model.specs.documents.PyxClauses.{BeginsOtherwise, AreOpenTags, EndsWithTag, EndsInText, BreaksTagNamespaces, RepeatsName, BreaksHere, Breaks}
 use Rattle.rng_model.specs.documents.PyxClauses.{at_line}
 use Rattle.rng_model.specs.documents.PyxClauses.{unfinished, rootless}
 use Rattle.pyx.specs.plain.Cuts.{behind}
@@ -51,7 +51,7 @@ pub record TagBreaks (front : List Line) (clause : ℕ) : Type 0 where
   pub name : QName
   pub written : List WrittenAttribute
   pub ends : EndsWithTag front outer name written
-  pub breaks : ((clause ≡ 11) × BreaksNamespaces outer name written) ⊎ ((clause ≡ 12) × RepeatsName outer written)
+  pub breaks : ((clause ≡ 11) × BreaksTagNamespaces outer name written) ⊎ ((clause ≡ 12) × RepeatsName outer written)
 
 -- the result of reading a line after these
 pub data LineTells (front : List Line) (l : Line) (turn : Turn State) : Type 0 where
@@ -125,7 +125,7 @@ tag_broken {front} {os} {t} {n} {clause} c q = record {
       (tag_tells (declared_in os) t.name c.written t.declared t.others c.split (matched_declared c.matched)));
 } where
   go : TagTells (declared_in os) t.name c.written t.declared t.others (Err clause)
-      → ((clause ≡ 11) × BreaksNamespaces (scope_of os) t.name c.written) ⊎ ((clause ≡ 12) × RepeatsName (scope_of os) c.written)
+      → ((clause ≡ 11) × BreaksTagNamespaces (scope_of os) t.name c.written) ⊎ ((clause ≡ 12) × RepeatsName (scope_of os) c.written)
   go (inl b) = inl b
   go (inr b) = inr (b.0, b.1.twice)
 
@@ -268,7 +268,7 @@ last_of_tag {front} e = subst LastLine (sym e.parts) (last_after e.front e.tag e
 tag_here : {before behind : List Line} {l : Line} {clause : ℕ} → TagBreaks (before ++ l ∷ []) clause → BeginsOtherwise 65 behind
     → BreaksHere before l behind clause
 tag_here {before} {behind} {l} {clause} b n = go b.breaks where
-  go : ((clause ≡ 11) × BreaksNamespaces b.outer b.name b.written) ⊎ ((clause ≡ 12) × RepeatsName b.outer b.written) → BreaksHere before l behind clause
+  go : ((clause ≡ 11) × BreaksTagNamespaces b.outer b.name b.written) ⊎ ((clause ≡ 12) × RepeatsName b.outer b.written) → BreaksHere before l behind clause
   go (inl p) = subst (BreaksHere before l behind) (sym p.0) (clauses.within (tag_is_within before l b.ends) (clauses.namespaces b.ends n p.1))
   go (inr p) = subst (BreaksHere before l behind) (sym p.0) (clauses.within (tag_is_within before l b.ends) (clauses.repeated_name b.ends n p.1))
 

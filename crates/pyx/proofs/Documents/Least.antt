@@ -12,7 +12,7 @@ use Rattle.rng_model.specs.documents.PyxLines.{Said, QName, IsGoodLine}
 use Rattle.rng_model.specs.documents.PyxNamespaces.{WrittenAttribute, NamespaceScope}
 use Rattle.rng_model.specs.documents.PyxTrees.{Event}
 use Rattle.rng_model.specs.documents.PyxClauses as clauses
-use Rattle.rng_model.specs.documents.PyxClauses.{BeginsOtherwise, AreOpenTags, SaysTag, HasScope, EndsInText, BreaksNamespaces}
+use Rattle.rng_model.specs.documents.PyxClauses.{BeginsOtherwise, AreOpenTags, SaysTag, HasScope, EndsInText, BreaksTagNamespaces}
 use Rattle.rng_model.specs.documents.PyxClauses.{RepeatsName}
 use Rattle.rng_model.specs.documents.PyxClauses.{BreaksHere}
 use Rattle.rng_model.specs.documents.PyxClauses.{Breaks, at_line, unfinished, rootless, IsFirstFault}
@@ -316,11 +316,11 @@ tag_answered {front} {os} {t} {n} {k} c b = go b.breaks where
   outer : b.outer ≡ scope_of os
   outer = scope_same (subst (λ (x : List clauses.Tag). HasScope x b.outer) around b.ends.scope) (matched_scope c.matched)
 
-  go : ((k ≡ 11) × BreaksNamespaces b.outer b.name b.written) ⊎ ((k ≡ 12) × RepeatsName b.outer b.written) → Answered os t k
+  go : ((k ≡ 11) × BreaksTagNamespaces b.outer b.name b.written) ⊎ ((k ≡ 12) × RepeatsName b.outer b.written) → Answered os t k
   go (inl p) =
-      let x : BreaksNamespaces (scope_of os) t.name c.written = subst (λ (y : QName). BreaksNamespaces (scope_of os) y c.written) same.0
-      (subst (λ (y : List WrittenAttribute). BreaksNamespaces (scope_of os) b.name y) same.1
-      (subst (λ (y : NamespaceScope). BreaksNamespaces y b.name b.written) outer p.1)) in
+      let x : BreaksTagNamespaces (scope_of os) t.name c.written = subst (λ (y : QName). BreaksTagNamespaces (scope_of os) y c.written) same.0
+      (subst (λ (y : List WrittenAttribute). BreaksTagNamespaces (scope_of os) b.name y) same.1
+      (subst (λ (y : NamespaceScope). BreaksTagNamespaces y b.name b.written) outer p.1)) in
       record {
         clause = 11;
         is = tag_namespaces (declared_in os) t.name c.written t.declared t.others c.split (matched_declared c.matched) x;
@@ -386,7 +386,7 @@ pub data Reached (all : List Line) (turn : Turn State) : Type 0 where
 
 tag_clause : {front : List Line} {k : ℕ} → TagBreaks front k → k ≤ 12
 tag_clause {k = k} b = go b.breaks where
-  go : ((k ≡ 11) × BreaksNamespaces b.outer b.name b.written) ⊎ ((k ≡ 12) × RepeatsName b.outer b.written) → k ≤ 12
+  go : ((k ≡ 11) × BreaksTagNamespaces b.outer b.name b.written) ⊎ ((k ≡ 12) × RepeatsName b.outer b.written) → k ≤ 12
   go (inl p) = omega (arith, p.0)
   go (inr p) = omega (arith, p.0)
 

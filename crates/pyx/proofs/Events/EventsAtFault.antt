@@ -15,7 +15,8 @@ use Rattle.rng_model.specs.documents.PyxLines as said
 use Rattle.rng_model.specs.documents.PyxLines.{Said, QName, IsGoodLine}
 use Rattle.rng_model.specs.documents.PyxTrees.{Event}
 use Rattle.rng_model.specs.documents.PyxClauses as clauses
-use Rattle.rng_model.specs.documents.PyxClauses.{BreaksBetween, BreaksHere, Breaks, at_line, unfinished, rootless, IsFront, HasLongestFront}
+use Rattle.rng_model.specs.documents.PyxClauses.{BreaksBetween, BreaksHere, Breaks, at_line, unfinished, rootless}
+use Rattle.rng_model.specs.documents.Documents.{IsFront, HasLongestFront, BeginsDocument, AreEventsBefore}
 use Rattle.pyx.specs.plain.Cuts.{at_byte}
 use Rattle.pyx.specs.plain.LineReader.{said_of}
 use Rattle.pyx.specs.plain.TagReader.{Element, tag_read}
@@ -23,7 +24,6 @@ use Rattle.pyx.specs.plain.DocumentReader as reader
 use Rattle.pyx.specs.plain.DocumentReader.{State, Tag, Open, Turn, fault, go_on, followed, after_events, declared_in, tag_ended, line_read, all_read}
 use Rattle.pyx.specs.plain.DocumentReader.{nothing_read}
 use Rattle.pyx.specs.plain.DocumentReader.{at_end, all_ended, document_read}
-use Rattle.rng_model.specs.documents.Documents.{BeginsDocument, AreEventsBefore}
 use Rattle.pyx.proofs.Lines.LineClauses.{good_line}
 use Rattle.pyx.proofs.Lines.SaidLines.{good, line_said}
 use Rattle.pyx.proofs.States.StateSteps.{inside, in_tag, text_event, end_event, start_event}

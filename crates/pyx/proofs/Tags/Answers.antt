@@ -7,7 +7,7 @@ use Rattle.rng_model.specs.names.Lists.{Among, here, there}
 use Rattle.rng_model.specs.names.Names.{Name}
 use Rattle.rng_model.specs.documents.PyxLines.{QName}
 use Rattle.rng_model.specs.documents.PyxNamespaces.{WrittenAttribute, NamespaceDeclaration, IsForbidden, NamesElement, AreExpanded, none_left, expanded_and}
-use Rattle.rng_model.specs.documents.PyxClauses.{BreaksNamespaces, forbidden, element_prefix, attribute_prefix, RepeatsName, written_twice, expanded_twice}
+use Rattle.rng_model.specs.documents.PyxClauses.{BreaksTagNamespaces, forbidden, element_prefix, attribute_prefix, RepeatsName, written_twice, expanded_twice}
 use Rattle.pyx.specs.plain.TagReader as read
 use Rattle.pyx.specs.plain.Declarations.{Declared, declared_by, forbidden_by, is_forbidden, any_forbidden, is_written_twice}
 use Rattle.pyx.specs.plain.TagReader.{Element, attribute_name, expanded, and_more}
@@ -102,7 +102,7 @@ pub record Repeats (outer : Declared) (name : QName) (written declared others : 
 -- P11, or P12
 abbrev pub TagTells : Declared → QName → List WrittenAttribute → List WrittenAttribute → List WrittenAttribute → Result Element ℕ → Type 0
 TagTells outer name written declared others (Ok e) = IsRead outer name declared others e
-TagTells outer name written declared others (Err k) = ((k ≡ 11) × BreaksNamespaces (scope_in outer) name written) ⊎
+TagTells outer name written declared others (Err k) = ((k ≡ 11) × BreaksTagNamespaces (scope_in outer) name written) ⊎
     ((k ≡ 12) × Repeats outer name written declared others)
 
 module _ (outer : Declared) (name : QName) (written declared others : List WrittenAttribute) (split : IsSplit written declared others) where

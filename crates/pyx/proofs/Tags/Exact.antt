@@ -19,7 +19,7 @@ use Rattle.rng_model.specs.documents.PyxNamespaces.{declaration}
 use Rattle.rng_model.specs.documents.PyxNamespaces.{other, NamespaceScope, IsForbidden, HasNamespace, NamesElement, element_name, NamesAttribute}
 use Rattle.rng_model.specs.documents.PyxNamespaces.{without_prefix, with_prefix}
 use Rattle.rng_model.specs.documents.PyxNamespaces.{AreExpanded, none_left, expanded_and}
-use Rattle.rng_model.specs.documents.PyxClauses.{BreaksNamespaces, forbidden, element_prefix, attribute_prefix, RepeatsName, written_twice, expanded_twice}
+use Rattle.rng_model.specs.documents.PyxClauses.{BreaksTagNamespaces, forbidden, element_prefix, attribute_prefix, RepeatsName, written_twice, expanded_twice}
 use Rattle.rng_model.specs.documents.PyxTrees.{IsTag}
 use Rattle.pyx.specs.plain.Declarations.{Declared, declared_by, is_written_in, is_written_twice}
 use Rattle.pyx.specs.plain.TagReader.{Element, attribute_name, expanded, and_more, is_named_in}
@@ -164,7 +164,7 @@ with_name_of (expanded_and n more) (there m) = with_name_of more m
 -- a tag with these names breaks no rule about namespaces
 no_breach : {outer : NamespaceScope} {name : QName} {written os : List WrittenAttribute} {ds : List NamespaceDeclaration} {q : Name} {attrs : List Attribute}
     → AreParted written ds os → AllByRecursion (λ d. IsForbidden d → ⊥) ds → NamesElement (ds ∷ outer) name q → AreExpanded (ds ∷ outer) os attrs
-    → BreaksNamespaces outer name written → ⊥
+    → BreaksTagNamespaces outer name written → ⊥
 no_breach parted allowed named are (forbidden {d = d} p m f) = not_among (subst (Among d) (parted_same p parted).0 m) allowed f
 no_breach {outer} {name} parted allowed named are (element_prefix {ds} {p = x} p e u) =
     let h = with_namespace named in
@@ -207,11 +207,11 @@ module _ (outer : Declared) (name : QName) (written declared others : List Writt
   parts : {ds : List NamespaceDeclaration} {os : List WrittenAttribute} → AreParted written ds os → (ds ≡ map declaration_of declared) × (os ≡ others)
   parts p = parted_same p (split_parted split)
 
-  breaks_none : (q : Name) (attrs : List Attribute) → HasNames outer name declared others q attrs → BreaksNamespaces (scope_in outer) name written → ⊥
+  breaks_none : (q : Name) (attrs : List Attribute) → HasNames outer name declared others q attrs → BreaksTagNamespaces (scope_in outer) name written → ⊥
   breaks_none q attrs n b = no_breach (split_parted split) n.allowed n.is_named n.are_expanded b
 
   -- a broken P11 is returned
-  pub tag_namespaces : AllDeclared outer → BreaksNamespaces (scope_in outer) name written → tag_read outer name declared others ≡ Err 11
+  pub tag_namespaces : AllDeclared outer → BreaksTagNamespaces (scope_in outer) name written → tag_read outer name declared others ≡ Err 11
   tag_namespaces all b = go (tag_read outer name declared others) (tag_tells outer name written declared others split all) where
     go : (r : Result Element ℕ) → TagTells outer name written declared others r → r ≡ Err 11
     go (Ok e) t = absurd (breaks_none e.name e.attrs t.names b)
@@ -304,5 +304,5 @@ module _ (outer : Declared) (name : QName) (written declared others : List Writt
     go (Ok e) r = ap Ok (tag_found t w once e r)
     go (Err k) (inl b) = absurd (no_breach t.are_parted (recursion_from_All (λ d. IsForbidden d → ⊥) t.declarations t.allowed)
         (subst (λ (x : NamespaceScope). NamesElement x name q) t.scope_is t.is_named) (subst (λ (x : NamespaceScope). AreExpanded x t.others attrs) t.scope_is t.are_expanded)
-        (subst (BreaksNamespaces (scope_in outer) name) (sym w) b.1))
+        (subst (BreaksTagNamespaces (scope_in outer) name) (sym w) b.1))
     go (Err k) (inr b) = absurd (tag_repeats_none t w once b.1.twice)

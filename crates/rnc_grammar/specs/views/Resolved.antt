@@ -43,16 +43,16 @@ namespace_at s places.Default = default_of s
 namespace_at s places.None = given []
 
 -- an element or an attribute of this class
-abbrev pub named_with : Unprefixed → syntax.NameClass applied → syntax.Pattern applied → syntax.Pattern applied
+abbrev pub named_with : Unprefixed → syntax.NameClassAt applied → syntax.PatternAt applied → syntax.PatternAt applied
 named_with places.Default = syntax.element
 named_with places.None = syntax.attribute
 
 -- an element or an attribute, with its declarations applied
-abbrev pub named_in : declarations.Scope → Unprefixed → syntax.NameClass written → syntax.Pattern written → Option (syntax.Pattern applied)
+abbrev pub named_in : declarations.Scope → Unprefixed → syntax.NameClassAt written → syntax.PatternAt written → Option (syntax.PatternAt applied)
 named_in s place c p = class_in s (namespace_at s place) c >>= λ c. pattern_in s p >>= λ p. Some (named_with place c p)
 
 -- this around a pattern
-abbrev pub wrapped_with : Wrapper → syntax.Pattern applied → syntax.Pattern applied
+abbrev pub wrapped_with : Wrapper → syntax.PatternAt applied → syntax.PatternAt applied
 wrapped_with wrappers.List = syntax.list
 wrapped_with wrappers.Mixed = syntax.mixed
 wrapped_with wrappers.Optional = syntax.optional
@@ -60,7 +60,7 @@ wrapped_with wrappers.ZeroOrMore = syntax.zero_or_more
 wrapped_with wrappers.OneOrMore = syntax.one_or_more
 
 -- this around a pattern, with its declarations applied
-abbrev pub wrapped_in : declarations.Scope → Wrapper → syntax.Pattern written → Option (syntax.Pattern applied)
+abbrev pub wrapped_in : declarations.Scope → Wrapper → syntax.PatternAt written → Option (syntax.PatternAt applied)
 wrapped_in s wrapper p = pattern_in s p >>= λ p. Some (wrapped_with wrapper p)
 
 -- a connector, without its place in memory
@@ -75,5 +75,5 @@ each f [] = Some []
 each f (x ∷ xs) = f x >>= λ y. each f xs >>= λ ys. Some (y ∷ ys)
 
 -- members with this connector between them, with their declarations applied
-abbrev pub joined_in : declarations.Scope → Connector → List (syntax.Pattern written) → Option (syntax.Pattern applied)
+abbrev pub joined_in : declarations.Scope → Connector → List (syntax.PatternAt written) → Option (syntax.PatternAt applied)
 joined_in s k ps = each (pattern_in s) ps >>= λ ps. Some (syntax.members (connector_of k) ps)

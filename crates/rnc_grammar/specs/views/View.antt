@@ -27,11 +27,11 @@ abbrev pub namespace_of : Namespace → tree.Namespace
 namespace_of namespaces.Inherited = tree.inherited
 namespace_of (namespaces.Given uri) = tree.given (namespace_bytes uri)
 
-abbrev pub name_of : ExpandedName → tree.Name applied
+abbrev pub name_of : ExpandedName → tree.NameAt applied
 name_of n = record { namespace = namespace_of n.namespace; local = string_bytes n.local }
 
 -- one level of a name class, if the classes inside are viewed already
-abbrev pub class_step : NameClass-F (tree.NameClass applied) → tree.NameClass applied
+abbrev pub class_step : NameClass-F (tree.NameClassAt applied) → tree.NameClassAt applied
 class_step NameClass-F.Any = tree.any_name
 class_step (NameClass-F.AnyExcept c) = tree.any_except c.value
 class_step (NameClass-F.Ns ns) = tree.ns_name (namespace_of ns)
@@ -39,8 +39,8 @@ class_step (NameClass-F.NsExcept ns c) = tree.ns_except (namespace_of ns) c.valu
 class_step (NameClass-F.Name n) = tree.name_is (name_of n)
 class_step (NameClass-F.Choice cs) = tree.choice_of cs.items
 
-abbrev pub class_of : NameClass → tree.NameClass applied
-class_of = fold-NameClass (tree.NameClass applied) class_step
+abbrev pub class_of : NameClass → tree.NameClassAt applied
+class_of = fold-NameClass (tree.NameClassAt applied) class_step
 
 abbrev pub type_of : DatatypeName → tree.DatatypeName applied
 type_of d = record { library = string_bytes d.library; name = string_bytes d.name }
@@ -52,12 +52,12 @@ abbrev pub mention_of : Mention → tree.Mention applied
 mention_of m = record { href = string_bytes m.href; inherit = namespace_of m.namespace; token = m.token }
 
 -- a datatype with the pattern that it excludes, if there is one
-abbrev pub data_of : Datatype → Option (tree.Pattern applied) → tree.Pattern applied
+abbrev pub data_of : Datatype → Option (tree.PatternAt applied) → tree.PatternAt applied
 data_of d None = tree.data_of (type_of d.type_name) (parameters_of d)
 data_of d (Some p) = tree.data_except (type_of d.type_name) (parameters_of d) p
 
 -- one level of a pattern, if the patterns and components inside are viewed already
-abbrev pub pattern_step : Pattern-F (tree.Component applied) (tree.Pattern applied) → tree.Pattern applied
+abbrev pub pattern_step : Pattern-F (tree.ComponentAt applied) (tree.PatternAt applied) → tree.PatternAt applied
 pattern_step (Pattern-F.Element c p) = tree.element (class_of c.value) p.value
 pattern_step (Pattern-F.Attribute c p) = tree.attribute (class_of c.value) p.value
 pattern_step (Pattern-F.List p) = tree.list p.value
@@ -79,17 +79,17 @@ pattern_step (Pattern-F.Interleave ps) = tree.members interleave ps.items
 pattern_step (Pattern-F.Choice ps) = tree.members choice ps.items
 
 -- one level of a component
-abbrev pub component_step : Component-F (tree.Component applied) (tree.Pattern applied) → tree.Component applied
+abbrev pub component_step : Component-F (tree.ComponentAt applied) (tree.PatternAt applied) → tree.ComponentAt applied
 component_step (Component-F.Start m p) = tree.start m p
 component_step (Component-F.Define n m p) = tree.define (string_bytes n) m p
 component_step (Component-F.Div cs) = tree.div (tree.components_of cs.items)
 component_step (Component-F.Include m cs) = tree.include (mention_of m.value) (tree.components_of cs.items)
 
-abbrev pub pattern_of : Pattern → tree.Pattern applied
-pattern_of = fold-Pattern (tree.Component applied) (tree.Pattern applied) component_step pattern_step
+abbrev pub pattern_of : Pattern → tree.PatternAt applied
+pattern_of = fold-Pattern (tree.ComponentAt applied) (tree.PatternAt applied) component_step pattern_step
 
-abbrev pub component_of : Component → tree.Component applied
-component_of = fold-Component (tree.Component applied) (tree.Pattern applied) component_step pattern_step
+abbrev pub component_of : Component → tree.ComponentAt applied
+component_of = fold-Component (tree.ComponentAt applied) (tree.PatternAt applied) component_step pattern_step
 
 abbrev pub file_of : FileTree → file.FileTree
 file_of (files.Pattern p) = file.pattern_file (pattern_of p)

@@ -50,12 +50,12 @@ module _ (ds : List Declaration) where
   library_by p = if bytes_eq p (codes "xsd") then xsd_uri else declared_library ds p
 
   -- a name without a prefix has the given namespace
-  abbrev pub name_by : Namespace → syntax.Name written → syntax.Name applied
+  abbrev pub name_by : Namespace → syntax.NameAt written → syntax.NameAt applied
   name_by ns (syntax.unprefixed l) = record { namespace = ns; local = l }
   name_by ns (syntax.prefixed p l) = record { namespace = namespace_by p; local = l }
 
   abbrev mutual
-    pub class_by : Namespace → syntax.NameClass written → syntax.NameClass applied
+    pub class_by : Namespace → syntax.NameClassAt written → syntax.NameClassAt applied
     class_by ns syntax.any_name = syntax.any_name
     class_by ns (syntax.any_except c) = syntax.any_except (class_by ns c)
     class_by ns (syntax.ns_name p) = syntax.ns_name (namespace_by p)
@@ -63,7 +63,7 @@ module _ (ds : List Declaration) where
     class_by ns (syntax.name_is n) = syntax.name_is (name_by ns n)
     class_by ns (syntax.one_of cs) = syntax.one_of (classes_by ns cs)
 
-    pub classes_by : Namespace → syntax.NameClasses written → syntax.NameClasses applied
+    pub classes_by : Namespace → syntax.NameClassesAt written → syntax.NameClassesAt applied
     classes_by ns syntax.no_classes = syntax.no_classes
     classes_by ns (syntax.class_and c cs) = syntax.class_and (class_by ns c) (classes_by ns cs)
 
@@ -83,7 +83,7 @@ module _ (ds : List Declaration) where
 
   abbrev mutual
     -- a name without a prefix has the default namespace in an element's class, and none in an attribute's
-    pub pattern_by : syntax.Pattern written → syntax.Pattern applied
+    pub pattern_by : syntax.PatternAt written → syntax.PatternAt applied
     pattern_by (syntax.element c p) = syntax.element (class_by (declared_default ds) c) (pattern_by p)
     pattern_by (syntax.attribute c p) = syntax.attribute (class_by (given []) c) (pattern_by p)
     pattern_by (syntax.list p) = syntax.list (pattern_by p)
@@ -103,17 +103,17 @@ module _ (ds : List Declaration) where
     pattern_by (syntax.grammar cs) = syntax.grammar (components_by cs)
     pattern_by (syntax.joined k ps) = syntax.joined k (patterns_by ps)
 
-    pub patterns_by : syntax.Patterns written → syntax.Patterns applied
+    pub patterns_by : syntax.PatternsAt written → syntax.PatternsAt applied
     patterns_by syntax.no_patterns = syntax.no_patterns
     patterns_by (syntax.pattern_and p ps) = syntax.pattern_and (pattern_by p) (patterns_by ps)
 
-    pub component_by : syntax.Component written → syntax.Component applied
+    pub component_by : syntax.ComponentAt written → syntax.ComponentAt applied
     component_by (syntax.start m p) = syntax.start m (pattern_by p)
     component_by (syntax.define n m p) = syntax.define n m (pattern_by p)
     component_by (syntax.div cs) = syntax.div (components_by cs)
     component_by (syntax.include m cs) = syntax.include (mention_by m) (components_by cs)
 
-    pub components_by : syntax.Components written → syntax.Components applied
+    pub components_by : syntax.ComponentsAt written → syntax.ComponentsAt applied
     components_by syntax.no_components = syntax.no_components
     components_by (syntax.component_and c cs) = syntax.component_and (component_by c) (components_by cs)
 

@@ -47,13 +47,13 @@ IsDeclaredTwice x ds = IsTwiceIn x (declared_in ds)
 -- ---- the prefixes in a tree
 
 -- the prefix of a name, if it has one
-abbrev pub prefixes_of_name : syntax.Name written → List Declarable
+abbrev pub prefixes_of_name : syntax.NameAt written → List Declarable
 prefixes_of_name (syntax.unprefixed l) = []
 prefixes_of_name (syntax.prefixed p l) = namespace_prefix p ∷ []
 
 abbrev mutual
   -- the prefixes of the names and of the `p:*` in a name class, including its excepts and choices
-  pub prefixes_of_class : syntax.NameClass written → List Declarable
+  pub prefixes_of_class : syntax.NameClassAt written → List Declarable
   prefixes_of_class syntax.any_name = []
   prefixes_of_class (syntax.any_except c) = prefixes_of_class c
   prefixes_of_class (syntax.ns_name p) = namespace_prefix p ∷ []
@@ -61,7 +61,7 @@ abbrev mutual
   prefixes_of_class (syntax.name_is n) = prefixes_of_name n
   prefixes_of_class (syntax.one_of cs) = prefixes_of_classes cs
 
-  pub prefixes_of_classes : syntax.NameClasses written → List Declarable
+  pub prefixes_of_classes : syntax.NameClassesAt written → List Declarable
   prefixes_of_classes syntax.no_classes = []
   prefixes_of_classes (syntax.class_and c cs) = prefixes_of_class c ++ prefixes_of_classes cs
 
@@ -78,7 +78,7 @@ prefixes_of_inherit (Some p) = namespace_prefix p ∷ []
 
 abbrev mutual
   -- the prefixes of the names, datatypes and `inherit`s in a pattern
-  pub prefixes_of_pattern : syntax.Pattern written → List Declarable
+  pub prefixes_of_pattern : syntax.PatternAt written → List Declarable
   prefixes_of_pattern (syntax.element c p) = prefixes_of_class c ++ prefixes_of_pattern p
   prefixes_of_pattern (syntax.attribute c p) = prefixes_of_class c ++ prefixes_of_pattern p
   prefixes_of_pattern (syntax.list p) = prefixes_of_pattern p
@@ -98,17 +98,17 @@ abbrev mutual
   prefixes_of_pattern (syntax.grammar cs) = prefixes_of_components cs
   prefixes_of_pattern (syntax.joined k ps) = prefixes_of_patterns ps
 
-  pub prefixes_of_patterns : syntax.Patterns written → List Declarable
+  pub prefixes_of_patterns : syntax.PatternsAt written → List Declarable
   prefixes_of_patterns syntax.no_patterns = []
   prefixes_of_patterns (syntax.pattern_and p ps) = prefixes_of_pattern p ++ prefixes_of_patterns ps
 
-  pub prefixes_of_component : syntax.Component written → List Declarable
+  pub prefixes_of_component : syntax.ComponentAt written → List Declarable
   prefixes_of_component (syntax.start m p) = prefixes_of_pattern p
   prefixes_of_component (syntax.define n m p) = prefixes_of_pattern p
   prefixes_of_component (syntax.div cs) = prefixes_of_components cs
   prefixes_of_component (syntax.include m cs) = prefixes_of_inherit m.inherit ++ prefixes_of_components cs
 
-  pub prefixes_of_components : syntax.Components written → List Declarable
+  pub prefixes_of_components : syntax.ComponentsAt written → List Declarable
   prefixes_of_components syntax.no_components = []
   prefixes_of_components (syntax.component_and c cs) = prefixes_of_component c ++ prefixes_of_components cs
 

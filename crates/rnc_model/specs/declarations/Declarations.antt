@@ -98,13 +98,13 @@ abbrev pub library_in : Scope → List ℕ → Option (List ℕ)
 library_in s p = if bytes_eq p (codes "xsd") then Some xsd_uri else s.datatypes p
 
 -- a name with its namespace; names without a prefix have the given one
-abbrev pub name_in : Scope → Namespace → syntax.Name written → Option (syntax.Name applied)
+abbrev pub name_in : Scope → Namespace → syntax.NameAt written → Option (syntax.NameAt applied)
 name_in s ns (syntax.unprefixed l) = Some (record { namespace = ns; local = l })
 name_in s ns (syntax.prefixed p l) = namespace_in s p >>= λ u. Some (record { namespace = u; local = l })
 
 abbrev mutual
   -- a name class with its namespaces; names without a prefix have the given one
-  pub class_in : Scope → Namespace → syntax.NameClass written → Option (syntax.NameClass applied)
+  pub class_in : Scope → Namespace → syntax.NameClassAt written → Option (syntax.NameClassAt applied)
   class_in s ns syntax.any_name = Some syntax.any_name
   class_in s ns (syntax.any_except c) = class_in s ns c >>= λ c. Some (syntax.any_except c)
   class_in s ns (syntax.ns_name p) = namespace_in s p >>= λ u. Some (syntax.ns_name u)
@@ -112,7 +112,7 @@ abbrev mutual
   class_in s ns (syntax.name_is n) = name_in s ns n >>= λ n. Some (syntax.name_is n)
   class_in s ns (syntax.one_of cs) = classes_in s ns cs >>= λ cs. Some (syntax.one_of cs)
 
-  pub classes_in : Scope → Namespace → syntax.NameClasses written → Option (syntax.NameClasses applied)
+  pub classes_in : Scope → Namespace → syntax.NameClassesAt written → Option (syntax.NameClassesAt applied)
   classes_in s ns syntax.no_classes = Some syntax.no_classes
   classes_in s ns (syntax.class_and c cs) = class_in s ns c >>= λ c. classes_in s ns cs >>= λ cs. Some (syntax.class_and c cs)
 
@@ -132,7 +132,7 @@ mention_in s m = handed_on s m.inherit >>= λ u. Some (record { href = m.href; i
 
 abbrev mutual
   -- an unprefixed name has the default namespace in an element's class, and none in an attribute's
-  pub pattern_in : Scope → syntax.Pattern written → Option (syntax.Pattern applied)
+  pub pattern_in : Scope → syntax.PatternAt written → Option (syntax.PatternAt applied)
   pattern_in s (syntax.element c p) = class_in s (default_of s) c >>= λ c. pattern_in s p >>= λ p. Some (syntax.element c p)
   pattern_in s (syntax.attribute c p) = class_in s (given []) c >>= λ c. pattern_in s p >>= λ p. Some (syntax.attribute c p)
   pattern_in s (syntax.list p) = pattern_in s p >>= λ p. Some (syntax.list p)
@@ -152,17 +152,17 @@ abbrev mutual
   pattern_in s (syntax.grammar cs) = components_in s cs >>= λ cs. Some (syntax.grammar cs)
   pattern_in s (syntax.joined k ps) = patterns_in s ps >>= λ ps. Some (syntax.joined k ps)
 
-  pub patterns_in : Scope → syntax.Patterns written → Option (syntax.Patterns applied)
+  pub patterns_in : Scope → syntax.PatternsAt written → Option (syntax.PatternsAt applied)
   patterns_in s syntax.no_patterns = Some syntax.no_patterns
   patterns_in s (syntax.pattern_and p ps) = pattern_in s p >>= λ p. patterns_in s ps >>= λ ps. Some (syntax.pattern_and p ps)
 
-  pub component_in : Scope → syntax.Component written → Option (syntax.Component applied)
+  pub component_in : Scope → syntax.ComponentAt written → Option (syntax.ComponentAt applied)
   component_in s (syntax.start m p) = pattern_in s p >>= λ p. Some (syntax.start m p)
   component_in s (syntax.define n m p) = pattern_in s p >>= λ p. Some (syntax.define n m p)
   component_in s (syntax.div cs) = components_in s cs >>= λ cs. Some (syntax.div cs)
   component_in s (syntax.include m cs) = mention_in s m >>= λ m. components_in s cs >>= λ cs. Some (syntax.include m cs)
 
-  pub components_in : Scope → syntax.Components written → Option (syntax.Components applied)
+  pub components_in : Scope → syntax.ComponentsAt written → Option (syntax.ComponentsAt applied)
   components_in s syntax.no_components = Some syntax.no_components
   components_in s (syntax.component_and c cs) = component_in s c >>= λ c. components_in s cs >>= λ cs. Some (syntax.component_and c cs)
 

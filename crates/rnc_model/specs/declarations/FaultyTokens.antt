@@ -17,14 +17,14 @@ prefix_of_type syntax.string_type = None
 prefix_of_type syntax.token_type = None
 prefix_of_type (syntax.prefixed_type p l) = Some (datatype_prefix p)
 
-abbrev pub prefix_in : Option Use → Option Declarable
-prefix_in None = None
-prefix_in (Some (namespace_of p)) = Some (namespace_prefix p)
-prefix_in (Some (data_of d ps)) = prefix_of_type d
-prefix_in (Some (value_of d v)) = prefix_of_type d
+abbrev pub prefix_used_in : Option Use → Option Declarable
+prefix_used_in None = None
+prefix_used_in (Some (namespace_of p)) = Some (namespace_prefix p)
+prefix_used_in (Some (data_of d ps)) = prefix_of_type d
+prefix_used_in (Some (value_of d v)) = prefix_of_type d
 
 abbrev pub prefixes_in : List (Option Use) → List (Option Declarable)
-prefixes_in uses = map prefix_in uses
+prefixes_in uses = map prefix_used_in uses
 
 -- ---- the number of the first token of each declaration, if the first of them begins at the token with this number
 abbrev pub declaration_numbers : {ts : List Lexeme} {ds : List syntax.Declaration} → ℕ → AreDeclarations ts ds → List ℕ

@@ -11,7 +11,7 @@ use Rattle.rng_model.specs.declared.method.Method.{Method}
 use Rattle.rng_model.specs.declared.method.Method.TheVariants as methods
 use Rattle.rnc_model.specs.tokens.Cut.{Lexeme, Spelling, keyword, identifier, cname, ns_name, segment, sign}
 use Rattle.rnc_model.specs.grammar.Syntax as syntax
-use Rattle.rnc_model.specs.grammar.Syntax.{written, NameClass, DatatypeName}
+use Rattle.rnc_model.specs.grammar.Syntax.{written, NameClassAt, DatatypeName}
 
 -- ---- the meaning of one token
 
@@ -97,30 +97,30 @@ pub data MayInherit : List Lexeme → Option (List ℕ) → Type 0 where
 
 mutual
   -- class = basic | basic ("|" basic)+ | [annotation] (nsName | "*") "-" basic
-  pub data IsClass : List Lexeme → NameClass written → Type 0 where
-    basic_class : {ts : List Lexeme} {c : NameClass written} → IsBasic ts c → IsClass ts c
-    choice_class : {ts : List Lexeme} {d : NameClass written} {a b : List Lexeme} {c : NameClass written} {cs : List (NameClass written)} → IsBasic a c
+  pub data IsClass : List Lexeme → NameClassAt written → Type 0 where
+    basic_class : {ts : List Lexeme} {c : NameClassAt written} → IsBasic ts c → IsClass ts c
+    choice_class : {ts : List Lexeme} {d : NameClassAt written} {a b : List Lexeme} {c : NameClassAt written} {cs : List (NameClassAt written)} → IsBasic a c
         → AreMoreClasses b cs → ts ≡ a ++ b → d ≡ syntax.choice_of (c ∷ cs) → IsClass ts d
-    any_except : {ts : List Lexeme} {n a : List Lexeme} {c : NameClass written} → MayBeAnnotation n → IsBasic a c → ts ≡ n ++ sign Star ∷ sign Minus ∷ a
+    any_except : {ts : List Lexeme} {n a : List Lexeme} {c : NameClassAt written} → MayBeAnnotation n → IsBasic a c → ts ≡ n ++ sign Star ∷ sign Minus ∷ a
         → IsClass ts (syntax.any_except c)
-    ns_except : {ts : List Lexeme} {n a : List Lexeme} {p : List ℕ} {c : NameClass written} → MayBeAnnotation n → IsBasic a c
+    ns_except : {ts : List Lexeme} {n a : List Lexeme} {p : List ℕ} {c : NameClassAt written} → MayBeAnnotation n → IsBasic a c
         → ts ≡ n ++ ns_name p ∷ sign Minus ∷ a → IsClass ts (syntax.ns_except p c)
 
   -- ("|" basic)+
-  pub data AreMoreClasses : List Lexeme → List (NameClass written) → Type 0 where
-    last_class : {ts : List Lexeme} {a : List Lexeme} {c : NameClass written} → IsBasic a c → ts ≡ sign Bar ∷ a → AreMoreClasses ts (c ∷ [])
-    more_classes : {ts : List Lexeme} {cs : List (NameClass written)} {a b : List Lexeme} {c : NameClass written} → IsBasic a c → AreMoreClasses b cs
+  pub data AreMoreClasses : List Lexeme → List (NameClassAt written) → Type 0 where
+    last_class : {ts : List Lexeme} {a : List Lexeme} {c : NameClassAt written} → IsBasic a c → ts ≡ sign Bar ∷ a → AreMoreClasses ts (c ∷ [])
+    more_classes : {ts : List Lexeme} {cs : List (NameClassAt written)} {a b : List Lexeme} {c : NameClassAt written} → IsBasic a c → AreMoreClasses b cs
         → ts ≡ sign Bar ∷ (a ++ b) → AreMoreClasses ts (c ∷ cs)
 
   -- basic = [annotation] bare-basic
-  pub data IsBasic : List Lexeme → NameClass written → Type 0 where
-    annotated_basic : {ts : List Lexeme} {n a : List Lexeme} {c : NameClass written} → MayBeAnnotation n → IsBareBasic a c → ts ≡ n ++ a → IsBasic ts c
+  pub data IsBasic : List Lexeme → NameClassAt written → Type 0 where
+    annotated_basic : {ts : List Lexeme} {n a : List Lexeme} {c : NameClassAt written} → MayBeAnnotation n → IsBareBasic a c → ts ≡ n ++ a → IsBasic ts c
 
   -- bare-basic = word | CName | nsName | "*" | "(" class ")"
-  pub data IsBareBasic : List Lexeme → NameClass written → Type 0 where
+  pub data IsBareBasic : List Lexeme → NameClassAt written → Type 0 where
     word_class : {ts : List Lexeme} {x : Lexeme} {w : List ℕ} → word_of x ≡ Some w → ts ≡ x ∷ [] → IsBareBasic ts (syntax.name_is (syntax.unprefixed w))
     cname_class : {ts : List Lexeme} {p l : List ℕ} → ts ≡ cname p l ∷ [] → IsBareBasic ts (syntax.name_is (syntax.prefixed p l))
     ns_class : {ts : List Lexeme} {p : List ℕ} → ts ≡ ns_name p ∷ [] → IsBareBasic ts (syntax.ns_name p)
     any_class : {ts : List Lexeme} → ts ≡ sign Star ∷ [] → IsBareBasic ts syntax.any_name
-    class_in_parens : {ts : List Lexeme} {a : List Lexeme} {c : NameClass written} → IsClass a c → ts ≡ sign OpenParenthesis ∷ (a ++ sign CloseParenthesis ∷ [])
+    class_in_parens : {ts : List Lexeme} {a : List Lexeme} {c : NameClassAt written} → IsClass a c → ts ≡ sign OpenParenthesis ∷ (a ++ sign CloseParenthesis ∷ [])
         → IsBareBasic ts c

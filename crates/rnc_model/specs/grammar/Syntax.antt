@@ -29,30 +29,30 @@ pub record AppliedName : Type 0 where
   pub namespace : Namespace
   pub local : List ℕ
 
-abbrev pub Name : Stage → Type 0
-Name written = WrittenName
-Name applied = AppliedName
+abbrev pub NameAt : Stage → Type 0
+NameAt written = WrittenName
+NameAt applied = AppliedName
 
 -- a name class
 mutual
-  pub data NameClass (w : Stage) : Type 0 where
-    any_name : NameClass w
-    any_except : NameClass w → NameClass w
-    ns_name : NamespaceAt w → NameClass w
-    ns_except : NamespaceAt w → NameClass w → NameClass w
-    name_is : Name w → NameClass w
-    one_of : NameClasses w → NameClass w
+  pub data NameClassAt (w : Stage) : Type 0 where
+    any_name : NameClassAt w
+    any_except : NameClassAt w → NameClassAt w
+    ns_name : NamespaceAt w → NameClassAt w
+    ns_except : NamespaceAt w → NameClassAt w → NameClassAt w
+    name_is : NameAt w → NameClassAt w
+    one_of : NameClassesAt w → NameClassAt w
 
-  pub data NameClasses (w : Stage) : Type 0 where
-    no_classes : NameClasses w
-    class_and : NameClass w → NameClasses w → NameClasses w
+  pub data NameClassesAt (w : Stage) : Type 0 where
+    no_classes : NameClassesAt w
+    class_and : NameClassAt w → NameClassesAt w → NameClassesAt w
 
-abbrev pub classes_of : {w : Stage} → List (NameClass w) → NameClasses w
+abbrev pub classes_of : {w : Stage} → List (NameClassAt w) → NameClassesAt w
 classes_of [] = no_classes
 classes_of (c ∷ cs) = class_and c (classes_of cs)
 
 -- a choice of these name classes
-abbrev pub choice_of : {w : Stage} → List (NameClass w) → NameClass w
+abbrev pub choice_of : {w : Stage} → List (NameClassAt w) → NameClassAt w
 choice_of cs = one_of (classes_of cs)
 
 -- the name of a datatype as it is written
@@ -83,50 +83,50 @@ pub record Mention (w : Stage) : Type 0 where
 
 -- patterns, and the components of grammars
 mutual
-  pub data Pattern (w : Stage) : Type 0 where
-    element : NameClass w → Pattern w → Pattern w
-    attribute : NameClass w → Pattern w → Pattern w
-    list : Pattern w → Pattern w
-    mixed : Pattern w → Pattern w
-    optional : Pattern w → Pattern w
-    zero_or_more : Pattern w → Pattern w
-    one_or_more : Pattern w → Pattern w
-    ref : List ℕ → Pattern w
-    parent_ref : List ℕ → Pattern w
-    empty : Pattern w
-    text : Pattern w
-    not_allowed : Pattern w
-    value : DatatypeName w → List ℕ → Pattern w
-    data_of : DatatypeName w → List (List ℕ × List ℕ) → Pattern w
-    data_except : DatatypeName w → List (List ℕ × List ℕ) → Pattern w → Pattern w
-    external : Mention w → Pattern w
-    grammar : Components w → Pattern w
-    joined : Connector → Patterns w → Pattern w
+  pub data PatternAt (w : Stage) : Type 0 where
+    element : NameClassAt w → PatternAt w → PatternAt w
+    attribute : NameClassAt w → PatternAt w → PatternAt w
+    list : PatternAt w → PatternAt w
+    mixed : PatternAt w → PatternAt w
+    optional : PatternAt w → PatternAt w
+    zero_or_more : PatternAt w → PatternAt w
+    one_or_more : PatternAt w → PatternAt w
+    ref : List ℕ → PatternAt w
+    parent_ref : List ℕ → PatternAt w
+    empty : PatternAt w
+    text : PatternAt w
+    not_allowed : PatternAt w
+    value : DatatypeName w → List ℕ → PatternAt w
+    data_of : DatatypeName w → List (List ℕ × List ℕ) → PatternAt w
+    data_except : DatatypeName w → List (List ℕ × List ℕ) → PatternAt w → PatternAt w
+    external : Mention w → PatternAt w
+    grammar : ComponentsAt w → PatternAt w
+    joined : Connector → PatternsAt w → PatternAt w
 
-  pub data Patterns (w : Stage) : Type 0 where
-    no_patterns : Patterns w
-    pattern_and : Pattern w → Patterns w → Patterns w
+  pub data PatternsAt (w : Stage) : Type 0 where
+    no_patterns : PatternsAt w
+    pattern_and : PatternAt w → PatternsAt w → PatternsAt w
 
-  pub data Component (w : Stage) : Type 0 where
-    start : Method → Pattern w → Component w
-    define : List ℕ → Method → Pattern w → Component w
-    div : Components w → Component w
-    include : Mention w → Components w → Component w
+  pub data ComponentAt (w : Stage) : Type 0 where
+    start : Method → PatternAt w → ComponentAt w
+    define : List ℕ → Method → PatternAt w → ComponentAt w
+    div : ComponentsAt w → ComponentAt w
+    include : Mention w → ComponentsAt w → ComponentAt w
 
-  pub data Components (w : Stage) : Type 0 where
-    no_components : Components w
-    component_and : Component w → Components w → Components w
+  pub data ComponentsAt (w : Stage) : Type 0 where
+    no_components : ComponentsAt w
+    component_and : ComponentAt w → ComponentsAt w → ComponentsAt w
 
-abbrev pub patterns_of : {w : Stage} → List (Pattern w) → Patterns w
+abbrev pub patterns_of : {w : Stage} → List (PatternAt w) → PatternsAt w
 patterns_of [] = no_patterns
 patterns_of (p ∷ ps) = pattern_and p (patterns_of ps)
 
-abbrev pub components_of : {w : Stage} → List (Component w) → Components w
+abbrev pub components_of : {w : Stage} → List (ComponentAt w) → ComponentsAt w
 components_of [] = no_components
 components_of (c ∷ cs) = component_and c (components_of cs)
 
 -- these members, joined by a connector
-abbrev pub members : {w : Stage} → Connector → List (Pattern w) → Pattern w
+abbrev pub members : {w : Stage} → Connector → List (PatternAt w) → PatternAt w
 members k ps = joined k (patterns_of ps)
 
 -- the URI of a declaration: the inherited one, or a text
@@ -142,8 +142,8 @@ pub data Declaration : Type 0 where
 
 -- what follows the declarations
 pub data Body : Type 0 where
-  pattern_body : Pattern written → Body
-  grammar_body : Components written → Body
+  pattern_body : PatternAt written → Body
+  grammar_body : ComponentsAt written → Body
 
 pub record File : Type 0 where
   pub declarations : List Declaration

@@ -20,13 +20,13 @@ abbrev pub datatype_by : List Declaration → DatatypeName written → List (Lis
 datatype_by ds d ps = record { library = (type_by ds d).library; name = (type_by ds d).name; parameters = ps }
 
 -- the datatype is not in the set with these parameters, or may not have this value
-pub data BreaksDatatype (types : TypeSet) (ds : List Declaration) : Use → Type 0 where
-  of_data : {d : DatatypeName written} {ps : List (List ℕ × List ℕ)} → ¬ (IsKnownIn types (datatype_by ds d ps)) → BreaksDatatype types ds (data_of d ps)
-  of_value : {d : DatatypeName written} {v : List ℕ} → ¬ (IsValueIn types (datatype_by ds d []) v) → BreaksDatatype types ds (value_of d v)
+pub data IsBrokenUse (types : TypeSet) (ds : List Declaration) : Use → Type 0 where
+  of_data : {d : DatatypeName written} {ps : List (List ℕ × List ℕ)} → ¬ (IsKnownIn types (datatype_by ds d ps)) → IsBrokenUse types ds (data_of d ps)
+  of_value : {d : DatatypeName written} {v : List ℕ} → ¬ (IsValueIn types (datatype_by ds d []) v) → IsBrokenUse types ds (value_of d v)
 
 -- the token with this number is the first name of such a datatype
 abbrev pub IsBrokenDatatype : TypeSet → {ts : List Lexeme} {f : File} → IsFile ts f → ℕ → Type 0
-IsBrokenDatatype types (grammar.file {f = f} {a = a} ds body e) number = IsFirstAt (BreaksDatatype types f.declarations) (length a) (in_body body) number
+IsBrokenDatatype types (grammar.file {f = f} {a = a} ds body e) number = IsFirstAt (IsBrokenUse types f.declarations) (length a) (in_body body) number
 
 -- the tokens break no clause before that on datatypes, and they break that one first at the token with this number
 pub record BreaksDatatypesAt (types : TypeSet) (ts : List Lexeme) (number : ℕ) : Type 0 where

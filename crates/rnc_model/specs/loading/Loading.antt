@@ -1,6 +1,6 @@
 -- Files become one schema: the order in which they are taken, and the verdict on them up to S10 (RELAX NG Specification, sections 4.6 and 4.7;
 -- the order and the limit of S9: profile).
-use Rattle.std.specs.Prelude.{◌≡◌, ℕ, ◌≤◌, List, [], ◌∷◌, ◌++◌, map, fold, length, slice_get, Option, Some, None, if◌then◌else◌, string_bytes}
+use Rattle.std.specs.Prelude.{◌≡◌, ℕ, ◌≤◌, List, [], ◌∷◌, ◌++◌, map, fold, length, slice_get, Option, Some, None, if◌then◌else◌}
 use Rattle.std.specs.List.{list_any}
 use Rattle.std.specs.Map.{lookup}
 use Rattle.std.specs.Str.{bytes_eq}
@@ -10,8 +10,6 @@ use Rattle.rnc_model.specs.grammar.Syntax.{applied, Mention}
 use Rattle.rnc_model.specs.declarations.FileTree.{FileTree, grammar_components}
 use Rattle.rnc_model.specs.loading.Mentions.{BreaksMentions, MentionedFile, external_file, included_file, mention_of, mentions_of, HasName}
 use Rattle.rnc_model.specs.loading.SchemaFile.{FileName, NamedFile, BreaksOwn, HasTree}
-use Rattle.rng_model.specs.declared.fault.SchemaFault.{SchemaFault}
-use Rattle.rng_model.specs.declared.fault.SchemaFault.TheVariants as faults
 
 -- the names that a tree mentions, in order
 abbrev pub hrefs_of : FileTree → List FileName
@@ -67,9 +65,9 @@ hrefs_in read f = hrefs_if (tree_in read f)
 module _ (read : TakenFiles) where
   -- an include, in a file or in a component that is overridden: the file that it mentions is not a grammar, or the
   -- braces override a name, or a start, that the grammar of this file does not have
-  pub data BreaksInclude (m : Mention applied) (over : tree.Components applied) : Type 0 where
+  pub data BreaksInclude (m : Mention applied) (over : tree.ComponentsAt applied) : Type 0 where
     no_grammar : {t : FileTree} → tree_in read m.href ≡ Some t → grammar_components t ≡ None → BreaksInclude m over
-    nothing_to_override : {t : FileTree} {cs : tree.Components applied} {y : Option (List ℕ)} → tree_in read m.href ≡ Some t → grammar_components t ≡ Some cs
+    nothing_to_override : {t : FileTree} {cs : tree.ComponentsAt applied} {y : Option (List ℕ)} → tree_in read m.href ≡ Some t → grammar_components t ≡ Some cs
         → HasName (tree_in read) y over → ¬ (HasName (tree_in read) y cs) → BreaksInclude m over
 
   abbrev pub IsBrokenInclude : MentionedFile → Type 0
@@ -105,9 +103,3 @@ module _ (files : List NamedFile) (main : FileName) where
   pub record FilesHaveOnlyVerdict (v : FilesVerdict) : Type 0 where
     pub is : FilesHaveVerdict v
     pub only : (other : FilesVerdict) → FilesHaveVerdict other → v ≡ other
-
--- the verdict that a fault reports; out of memory reports none
-abbrev pub verdict_of_fault : SchemaFault → Option FilesVerdict
-verdict_of_fault (faults.File clause name) = Some (file_breaks (string_bytes name) clause)
-verdict_of_fault (faults.Clause clause) = Some (together_break clause)
-verdict_of_fault faults.Memory = None

@@ -11,7 +11,7 @@ use Rattle.rng_model.specs.declared.method.Method.{Method}
 -- components in the braces override them (section 4.7)
 pub data MentionedFile : Type 0 where
   external_file : Mention applied → MentionedFile
-  included_file : Mention applied → tree.Components applied → MentionedFile
+  included_file : Mention applied → tree.ComponentsAt applied → MentionedFile
 
 abbrev pub mention_of : MentionedFile → Mention applied
 mention_of (external_file m) = m
@@ -19,7 +19,7 @@ mention_of (included_file m over) = m
 
 abbrev mutual
   -- the mentions in a pattern, in order
-  pub mentions_of_pattern : tree.Pattern applied → List MentionedFile
+  pub mentions_of_pattern : tree.PatternAt applied → List MentionedFile
   mentions_of_pattern (tree.element c p) = mentions_of_pattern p
   mentions_of_pattern (tree.attribute c p) = mentions_of_pattern p
   mentions_of_pattern (tree.list p) = mentions_of_pattern p
@@ -39,17 +39,17 @@ abbrev mutual
   mentions_of_pattern (tree.grammar cs) = mentions_of_components cs
   mentions_of_pattern (tree.joined k ps) = mentions_of_patterns ps
 
-  pub mentions_of_patterns : tree.Patterns applied → List MentionedFile
+  pub mentions_of_patterns : tree.PatternsAt applied → List MentionedFile
   mentions_of_patterns tree.no_patterns = []
   mentions_of_patterns (tree.pattern_and p ps) = mentions_of_pattern p ++ mentions_of_patterns ps
 
-  pub mentions_of_component : tree.Component applied → List MentionedFile
+  pub mentions_of_component : tree.ComponentAt applied → List MentionedFile
   mentions_of_component (tree.start m p) = mentions_of_pattern p
   mentions_of_component (tree.define n m p) = mentions_of_pattern p
   mentions_of_component (tree.div cs) = mentions_of_components cs
   mentions_of_component (tree.include m over) = included_file m over ∷ mentions_of_components over
 
-  pub mentions_of_components : tree.Components applied → List MentionedFile
+  pub mentions_of_components : tree.ComponentsAt applied → List MentionedFile
   mentions_of_components tree.no_components = []
   mentions_of_components (tree.component_and c cs) = mentions_of_component c ++ mentions_of_components cs
 
@@ -104,14 +104,14 @@ module _ (files : List ℕ → Option FileTree) where
   -- These components give their grammar a component of this name, or a start: directly, or through the braces or the
   -- file of an include. An overridden component counts too, since the braces have one of its name.
   mutual
-    pub data HasName (y : Option (List ℕ)) : tree.Components applied → Type 0 where
-      of_first : {c : tree.Component applied} {cs : tree.Components applied} → NamesIt y c → HasName y (tree.component_and c cs)
-      of_later : {c : tree.Component applied} {cs : tree.Components applied} → HasName y cs → HasName y (tree.component_and c cs)
+    pub data HasName (y : Option (List ℕ)) : tree.ComponentsAt applied → Type 0 where
+      of_first : {c : tree.ComponentAt applied} {cs : tree.ComponentsAt applied} → NamesIt y c → HasName y (tree.component_and c cs)
+      of_later : {c : tree.ComponentAt applied} {cs : tree.ComponentsAt applied} → HasName y cs → HasName y (tree.component_and c cs)
 
-    pub data NamesIt (y : Option (List ℕ)) : tree.Component applied → Type 0 where
-      of_start : {p : tree.Pattern applied} {m : Method} → y ≡ None → NamesIt y (tree.start m p)
-      of_define : {n : List ℕ} {p : tree.Pattern applied} {m : Method} → y ≡ Some n → NamesIt y (tree.define n m p)
-      of_div : {cs : tree.Components applied} → HasName y cs → NamesIt y (tree.div cs)
-      of_braces : {m : Mention applied} {over : tree.Components applied} → HasName y over → NamesIt y (tree.include m over)
-      of_file : {m : Mention applied} {over cs : tree.Components applied} {f : FileTree} → files m.href ≡ Some f → grammar_components f ≡ Some cs → HasName y cs
+    pub data NamesIt (y : Option (List ℕ)) : tree.ComponentAt applied → Type 0 where
+      of_start : {p : tree.PatternAt applied} {m : Method} → y ≡ None → NamesIt y (tree.start m p)
+      of_define : {n : List ℕ} {p : tree.PatternAt applied} {m : Method} → y ≡ Some n → NamesIt y (tree.define n m p)
+      of_div : {cs : tree.ComponentsAt applied} → HasName y cs → NamesIt y (tree.div cs)
+      of_braces : {m : Mention applied} {over : tree.ComponentsAt applied} → HasName y over → NamesIt y (tree.include m over)
+      of_file : {m : Mention applied} {over cs : tree.ComponentsAt applied} {f : FileTree} → files m.href ≡ Some f → grammar_components f ≡ Some cs → HasName y cs
           → NamesIt y (tree.include m over)

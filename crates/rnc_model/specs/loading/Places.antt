@@ -24,11 +24,11 @@ abbrev pub uri_in : List ℕ → Namespace → List ℕ
 uri_in u inherited = u
 uri_in u (given v) = v
 
-abbrev pub name_in : List ℕ → tree.Name applied → names.Name
+abbrev pub name_in : List ℕ → tree.NameAt applied → names.Name
 name_in u n = record { ns = uri_in u n.namespace; local = n.local }
 
 abbrev mutual
-  pub class_in : List ℕ → tree.NameClass applied → names.NameClass
+  pub class_in : List ℕ → tree.NameClassAt applied → names.NameClass
   class_in u tree.any_name = names.any_name
   class_in u (tree.any_except c) = names.any_except (class_in u c)
   class_in u (tree.ns_name ns) = names.ns_name (uri_in u ns)
@@ -36,7 +36,7 @@ abbrev mutual
   class_in u (tree.name_is n) = names.name_is (name_in u n)
   class_in u (tree.one_of cs) = names.some_of (classes_in u cs)
 
-  pub classes_in : List ℕ → tree.NameClasses applied → List names.NameClass
+  pub classes_in : List ℕ → tree.NameClassesAt applied → List names.NameClass
   classes_in u tree.no_classes = []
   classes_in u (tree.class_and c cs) = class_in u c ∷ classes_in u cs
 
@@ -53,7 +53,7 @@ TreePath = List ℕ
 pub record Nested : Type 0 where
   pub place : Place
   pub uri : List ℕ
-  pub components : tree.Components applied
+  pub components : tree.ComponentsAt applied
 
 -- a component that its grammar gets, and the grammars that are nested directly in it
 pub record Gathered : Type 0 where
@@ -65,11 +65,11 @@ abbrev pub is_overridden : List Gathered → Gathered → Bool
 is_overridden os g = list_any (λ o. same_component_name o.component.name g.component.name) os
 
 -- the components of the grammar of the main file; any other pattern is the start of a grammar
-abbrev pub grammar_or_start : tree.Pattern applied → Option (tree.Components applied) → tree.Components applied
+abbrev pub grammar_or_start : tree.PatternAt applied → Option (tree.ComponentsAt applied) → tree.ComponentsAt applied
 grammar_or_start p None = tree.component_and (tree.start methods.Plain p) tree.no_components
 grammar_or_start p (Some cs) = cs
 
-abbrev pub main_grammar : FileTree → tree.Components applied
+abbrev pub main_grammar : FileTree → tree.ComponentsAt applied
 main_grammar (grammar_file cs) = cs
 main_grammar (pattern_file p) = grammar_or_start p (whole_grammar p)
 
@@ -85,20 +85,20 @@ module _ (files : List ℕ → Option FileTree) where
   -- in a file that inherits this namespace, the pattern at this path is that one, and these grammars are nested
   -- directly in it
   mutual
-    pub data Reads : List ℕ → TreePath → tree.Pattern applied → Pattern → List Nested → Type 0 where
-      element_is : {u : List ℕ} {x : TreePath} {c : tree.NameClass applied} {a : tree.Pattern applied} {p : Pattern} {gs : List Nested} → Reads u (0 ∷ x) a p gs
+    pub data Reads : List ℕ → TreePath → tree.PatternAt applied → Pattern → List Nested → Type 0 where
+      element_is : {u : List ℕ} {x : TreePath} {c : tree.NameClassAt applied} {a : tree.PatternAt applied} {p : Pattern} {gs : List Nested} → Reads u (0 ∷ x) a p gs
           → Reads u x (tree.element c a) (pattern.element (class_in u c) p) gs
-      attribute_is : {u : List ℕ} {x : TreePath} {c : tree.NameClass applied} {a : tree.Pattern applied} {p : Pattern} {gs : List Nested}
+      attribute_is : {u : List ℕ} {x : TreePath} {c : tree.NameClassAt applied} {a : tree.PatternAt applied} {p : Pattern} {gs : List Nested}
           → Reads u (0 ∷ x) a p gs → Reads u x (tree.attribute c a) (pattern.attribute (class_in u c) p) gs
-      list_is : {u : List ℕ} {x : TreePath} {a : tree.Pattern applied} {p : Pattern} {gs : List Nested} → Reads u (0 ∷ x) a p gs
+      list_is : {u : List ℕ} {x : TreePath} {a : tree.PatternAt applied} {p : Pattern} {gs : List Nested} → Reads u (0 ∷ x) a p gs
           → Reads u x (tree.list a) (pattern.list p) gs
-      mixed_is : {u : List ℕ} {x : TreePath} {a : tree.Pattern applied} {p : Pattern} {gs : List Nested} → Reads u (0 ∷ x) a p gs
+      mixed_is : {u : List ℕ} {x : TreePath} {a : tree.PatternAt applied} {p : Pattern} {gs : List Nested} → Reads u (0 ∷ x) a p gs
           → Reads u x (tree.mixed a) (pattern.mixed p) gs
-      optional_is : {u : List ℕ} {x : TreePath} {a : tree.Pattern applied} {p : Pattern} {gs : List Nested} → Reads u (0 ∷ x) a p gs
+      optional_is : {u : List ℕ} {x : TreePath} {a : tree.PatternAt applied} {p : Pattern} {gs : List Nested} → Reads u (0 ∷ x) a p gs
           → Reads u x (tree.optional a) (pattern.optional p) gs
-      zero_or_more_is : {u : List ℕ} {x : TreePath} {a : tree.Pattern applied} {p : Pattern} {gs : List Nested} → Reads u (0 ∷ x) a p gs
+      zero_or_more_is : {u : List ℕ} {x : TreePath} {a : tree.PatternAt applied} {p : Pattern} {gs : List Nested} → Reads u (0 ∷ x) a p gs
           → Reads u x (tree.zero_or_more a) (pattern.zero_or_more p) gs
-      one_or_more_is : {u : List ℕ} {x : TreePath} {a : tree.Pattern applied} {p : Pattern} {gs : List Nested} → Reads u (0 ∷ x) a p gs
+      one_or_more_is : {u : List ℕ} {x : TreePath} {a : tree.PatternAt applied} {p : Pattern} {gs : List Nested} → Reads u (0 ∷ x) a p gs
           → Reads u x (tree.one_or_more a) (pattern.one_or_more p) gs
       ref_is : {u : List ℕ} {x : TreePath} {y : List ℕ} → Reads u x (tree.ref y) (pattern.ref y) []
       parent_ref_is : {u : List ℕ} {x : TreePath} {y : List ℕ} → Reads u x (tree.parent_ref y) (pattern.parent_ref y) []
@@ -108,23 +108,23 @@ module _ (files : List ℕ → Option FileTree) where
       value_is : {u : List ℕ} {x : TreePath} {d : DatatypeName applied} {v : List ℕ} → Reads u x (tree.value d v) (pattern.value d.library d.name v) []
       data_is : {u : List ℕ} {x : TreePath} {d : DatatypeName applied} {ps : List (List ℕ × List ℕ)} →
           Reads u x (tree.data_of d ps) (pattern.data_of (datatype_in d ps)) []
-      except_is : {u : List ℕ} {x : TreePath} {d : DatatypeName applied} {ps : List (List ℕ × List ℕ)} {a : tree.Pattern applied} {p : Pattern}
+      except_is : {u : List ℕ} {x : TreePath} {d : DatatypeName applied} {ps : List (List ℕ × List ℕ)} {a : tree.PatternAt applied} {p : Pattern}
           {gs : List Nested} → Reads u (0 ∷ x) a p gs → Reads u x (tree.data_except d ps a) (pattern.data_except (datatype_in d ps) p) gs
       -- a nested grammar is at this place
-      grammar_is : {u : List ℕ} {x : TreePath} {cs : tree.Components applied} →
+      grammar_is : {u : List ℕ} {x : TreePath} {cs : tree.ComponentsAt applied} →
           Reads u x (tree.grammar cs) (pattern.grammar x) (record { place = x; uri = u; components = cs } ∷ [])
       -- an external is its file's pattern, read with the namespace that the mention passes on; a file of grammar
       -- content is a nested grammar
-      pattern_file_is : {u : List ℕ} {x : TreePath} {m : tree.Mention applied} {a : tree.Pattern applied} {p : Pattern} {gs : List Nested}
+      pattern_file_is : {u : List ℕ} {x : TreePath} {m : tree.Mention applied} {a : tree.PatternAt applied} {p : Pattern} {gs : List Nested}
           → files m.href ≡ Some (pattern_file a) → Reads (uri_in u m.inherit) (0 ∷ x) a p gs → Reads u x (tree.external m) (pattern.external p) gs
-      grammar_file_is : {u : List ℕ} {x : TreePath} {m : tree.Mention applied} {cs : tree.Components applied} → files m.href ≡ Some (grammar_file cs) →
+      grammar_file_is : {u : List ℕ} {x : TreePath} {m : tree.Mention applied} {cs : tree.ComponentsAt applied} → files m.href ≡ Some (grammar_file cs) →
           Reads u x (tree.external m) (pattern.external (pattern.grammar x)) (record { place = x; uri = uri_in u m.inherit; components = cs } ∷ [])
-      joined_is : {u : List ℕ} {x : TreePath} {k : Connector} {all : tree.Patterns applied} {ps : List Pattern} {gs : List Nested} → ReadAll u x 0 all ps gs
+      joined_is : {u : List ℕ} {x : TreePath} {k : Connector} {all : tree.PatternsAt applied} {ps : List Pattern} {gs : List Nested} → ReadAll u x 0 all ps gs
           → Reads u x (tree.joined k all) (joined_members k ps) gs
 
     -- the first of these patterns is the child with this number
-    pub data ReadAll : List ℕ → TreePath → ℕ → tree.Patterns applied → List Pattern → List Nested → Type 0 where
+    pub data ReadAll : List ℕ → TreePath → ℕ → tree.PatternsAt applied → List Pattern → List Nested → Type 0 where
       none_are : {u : List ℕ} {x : TreePath} {n : ℕ} → ReadAll u x n tree.no_patterns [] []
-      more_are : {u : List ℕ} {x : TreePath} {n : ℕ} {a : tree.Pattern applied} {all : tree.Patterns applied} {p : Pattern} {ps : List Pattern}
+      more_are : {u : List ℕ} {x : TreePath} {n : ℕ} {a : tree.PatternAt applied} {all : tree.PatternsAt applied} {p : Pattern} {ps : List Pattern}
           {gs hs : List Nested}
           {both : List Nested} → Reads u (n ∷ x) a p gs → ReadAll u x (n + 1) all ps hs → both ≡ gs ++ hs → ReadAll u x n (tree.pattern_and a all) (p ∷ ps) both

@@ -2,7 +2,7 @@
 -- (RELAX NG Compact Syntax, "Lexical structure").
 use Rattle.std.specs.Prelude.{◌≡◌, ℕ, ◌+◌, ◌<◌, ◌≤◌, List, [], ◌∷◌, ◌++◌, length}
 use Rattle.rnc_model.specs.characters.Decoding.{bytes_of, byte_length}
-use Rattle.rnc_model.specs.tokens.Tokens.{Piece, gap, token, characters_in, IsPiece}
+use Rattle.rnc_model.specs.tokens.Tokens.{Piece, gap, token, characters_in, IsGapOrToken}
 use Rattle.rnc_model.specs.declared.character.Character.{Character}
 use Rattle.rnc_model.specs.declared.token.TokenKind.{TokenKind}
 use Rattle.std.specs.List.{before_first, after_first}
@@ -13,14 +13,14 @@ use Rattle.rnc_model.specs.declared.token.TokenKind.TheVariants as kinds
 
 -- the characters begin with the piece, the rest follows it, and no longer front of the characters is a piece
 pub record IsNext (cs : List Character) (piece : Piece) (rest : List Character) : Type 0 where
-  pub is : IsPiece piece
+  pub is : IsGapOrToken piece
   pub parts : cs ≡ characters_in piece ++ rest
-  pub longest : (other : Piece) (after : List Character) → IsPiece other → cs ≡ characters_in other ++ after
+  pub longest : (other : Piece) (after : List Character) → IsGapOrToken other → cs ≡ characters_in other ++ after
       → length (characters_in other) ≤ length (characters_in piece)
 
 -- no piece begins
 abbrev pub NothingBegins : List Character → Type 0
-NothingBegins cs = (other : Piece) (after : List Character) → IsPiece other → ¬ (cs ≡ characters_in other ++ after)
+NothingBegins cs = (other : Piece) (after : List Character) → IsGapOrToken other → ¬ (cs ≡ characters_in other ++ after)
 
 -- the characters are cut into these pieces, and the rest follows the last of them
 pub data Cuts : List Character → List Piece → List Character → Type 0 where

@@ -96,17 +96,17 @@ IsUpToThree quote content = (front rest : List Character) → content ++ three q
 
 -- The characters of the piece are a blank, a comment or a token. The cut says how long it is: a comment is any `#` with
 -- some characters of its line.
-pub data IsPiece : Piece → Type 0 where
-  blank : {c : Character} → is_blank_character c ≡ true → IsPiece (gap (c ∷ []))
-  comment : {all : List Character} {cs : List Character} → list_all is_in_line cs ≡ true → all ≡ Ordinary 0x23 ∷ cs → IsPiece (gap all)
-  word : {kind : TokenKind} {all : List Character} → IsNcname all → kind ≡ word_kind all → IsPiece (token kind all all)
-  quoted_identifier : {name all : List Character} → IsNcname name → all ≡ Ordinary 0x5C ∷ name → IsPiece (token kinds.QuotedIdentifier name all)
+pub data IsGapOrToken : Piece → Type 0 where
+  blank : {c : Character} → is_blank_character c ≡ true → IsGapOrToken (gap (c ∷ []))
+  comment : {all : List Character} {cs : List Character} → list_all is_in_line cs ≡ true → all ≡ Ordinary 0x23 ∷ cs → IsGapOrToken (gap all)
+  word : {kind : TokenKind} {all : List Character} → IsNcname all → kind ≡ word_kind all → IsGapOrToken (token kind all all)
+  quoted_identifier : {name all : List Character} → IsNcname name → all ≡ Ordinary 0x5C ∷ name → IsGapOrToken (token kinds.QuotedIdentifier name all)
   cname : {all : List Character} (prefix local : List Character) → IsNcname prefix → IsNcname local → all ≡ prefix ++ Ordinary 0x3A ∷ local
-      → IsPiece (token kinds.CName all all)
+      → IsGapOrToken (token kinds.CName all all)
   nsname : {all : List Character} (prefix : List Character) → IsNcname prefix → all ≡ prefix ++ Ordinary 0x3A ∷ Ordinary 0x2A ∷ []
-      → IsPiece (token kinds.NsName all all)
+      → IsGapOrToken (token kinds.NsName all all)
   segment : {content all : List Character} (quote : ℕ) → is_quote quote ≡ true → list_all (is_in_segment quote) content ≡ true
-      → all ≡ Ordinary quote ∷ (content ++ Ordinary quote ∷ []) → IsPiece (token kinds.Segment content all)
+      → all ≡ Ordinary quote ∷ (content ++ Ordinary quote ∷ []) → IsGapOrToken (token kinds.Segment content all)
   triple_segment : {content all : List Character} (quote : ℕ) → is_quote quote ≡ true → IsUpToThree quote content
-      → all ≡ three quote (content ++ three quote []) → IsPiece (token kinds.TripleSegment content all)
-  sign : {all : List Character} {s : Sign} → sign_of (numbers_of all) ≡ Some s → IsPiece (token (kinds.Sign s) all all)
+      → all ≡ three quote (content ++ three quote []) → IsGapOrToken (token kinds.TripleSegment content all)
+  sign : {all : List Character} {s : Sign} → sign_of (numbers_of all) ≡ Some s → IsGapOrToken (token (kinds.Sign s) all all)

@@ -33,7 +33,7 @@ kept_use u = if may_break u then u ∷ [] else []
 
 abbrev mutual
   -- those in a pattern, in order
-  pub uses_of_pattern : syntax.Pattern written → List Use
+  pub uses_of_pattern : syntax.PatternAt written → List Use
   uses_of_pattern (syntax.element c p) = uses_of_pattern p
   uses_of_pattern (syntax.attribute c p) = uses_of_pattern p
   uses_of_pattern (syntax.list p) = uses_of_pattern p
@@ -53,17 +53,17 @@ abbrev mutual
   uses_of_pattern (syntax.grammar cs) = uses_of_components cs
   uses_of_pattern (syntax.joined k ps) = uses_of_patterns ps
 
-  pub uses_of_patterns : syntax.Patterns written → List Use
+  pub uses_of_patterns : syntax.PatternsAt written → List Use
   uses_of_patterns syntax.no_patterns = []
   uses_of_patterns (syntax.pattern_and p ps) = uses_of_pattern p ++ uses_of_patterns ps
 
-  pub uses_of_component : syntax.Component written → List Use
+  pub uses_of_component : syntax.ComponentAt written → List Use
   uses_of_component (syntax.start m p) = uses_of_pattern p
   uses_of_component (syntax.define n m p) = uses_of_pattern p
   uses_of_component (syntax.div cs) = uses_of_components cs
   uses_of_component (syntax.include m cs) = uses_of_components cs
 
-  pub uses_of_components : syntax.Components written → List Use
+  pub uses_of_components : syntax.ComponentsAt written → List Use
   uses_of_components syntax.no_components = []
   uses_of_components (syntax.component_and c cs) = uses_of_component c ++ uses_of_components cs
 

@@ -10,13 +10,13 @@ use Rattle.rnc_model.specs.loading.Places.{uri_in, name_in, class_in, classes_in
 use Rattle.rnc_print_laws.specs.plain.LinesSchema.{list_of, members_in, flattened, all_flattened}
 use Rattle.rnc_print_laws.specs.plain.LinesTree as lines
 
-classes_map : (cs : List (tree.NameClass applied)) → classes_in [] (tree.classes_of cs) ≡ map (class_in []) cs
+classes_map : (cs : List (tree.NameClassAt applied)) → classes_in [] (tree.classes_of cs) ≡ map (class_in []) cs
 classes_map [] = refl
 classes_map (c ∷ cs) = ap (λ (xs : List names.NameClass). class_in [] c ∷ xs) (classes_map cs)
 
-listed : (cs : List (tree.NameClass applied)) → lines.list_of (tree.classes_of cs) ≡ cs
+listed : (cs : List (tree.NameClassAt applied)) → lines.list_of (tree.classes_of cs) ≡ cs
 listed [] = refl
-listed (c ∷ cs) = ap (λ (xs : List (tree.NameClass applied)). c ∷ xs) (listed cs)
+listed (c ∷ cs) = ap (λ (xs : List (tree.NameClassAt applied)). c ∷ xs) (listed cs)
 
 listed_names : (cs : List names.NameClass) → list_of (names.class_list cs) ≡ cs
 listed_names [] = refl
@@ -44,7 +44,7 @@ module _ (plain : Namespace) (none : uri_in [] plain ≡ []) where
   choice_read c d cs e f h = map-append (class_in []) (lines.members_in (lines.class_of plain c)) (lines.class_of plain d ∷ lines.classes_of plain cs)
       ∙ ap₂ (λ xs ys. xs ++ ys) e (ap₂ (λ y ys. y ∷ ys) f h)
 
-  abbrev written : names.NameClass → names.NameClass → names.NameClasses → List (tree.NameClass applied)
+  abbrev written : names.NameClass → names.NameClass → names.NameClasses → List (tree.NameClassAt applied)
   written c d cs = lines.members_in (lines.class_of plain c) ++ lines.class_of plain d ∷ lines.classes_of plain cs
 
   mutual

@@ -25,7 +25,7 @@ use Rattle.rnc_print_laws.specs.plain.LinesTree.{lines_tree}
 use Rattle.rnc_print_laws.proofs.Lines.ReadClasses.{class_read}
 
 module _ (files : List ℕ → Option FileTree) where
-  abbrev IsRead : TreePath → tree.Pattern applied → Pattern → Type 0
+  abbrev IsRead : TreePath → tree.PatternAt applied → Pattern → Type 0
   IsRead x a q = Reads files [] x a q []
 
   reference_read : (items : List PrintedItem) (a : Simple ℕ) (x : TreePath) → IsRead x (lines.reference_of items a) (reference_pattern items a)
@@ -83,7 +83,7 @@ module _ (files : List ℕ → Option FileTree) where
   items_gather g items (j ∷ js) x n = loaded.a_define (item_read g items j (n ∷ x)) (items_gather g items js x (n + 1))
 
   module _ (g : Grammar) (items : List PrintedItem) where
-    abbrev file_components : tree.Components applied
+    abbrev file_components : tree.ComponentsAt applied
     file_components = p.main_grammar (lines_tree g items)
 
     abbrev all_gathered : List Gathered
@@ -109,18 +109,18 @@ module _ (files : List ℕ → Option FileTree) where
     none_in_lines c n (there a) b = none_nested c items n a b
 
     -- no grammar is nested in that of the lines
-    record IsMain (x : Place) (o : Option Place) (u : List ℕ) (cs : tree.Components applied) : Type 0 where
+    record IsMain (x : Place) (o : Option Place) (u : List ℕ) (cs : tree.ComponentsAt applied) : Type 0 where
       pub place : x ≡ []
       pub outer : o ≡ None
       pub uri : u ≡ []
       pub components : cs ≡ file_components
 
-    gathered_is : (x : TreePath) (u : List ℕ) (cs : tree.Components applied) (gathered : List Gathered) → u ≡ [] → cs ≡ file_components
+    gathered_is : (x : TreePath) (u : List ℕ) (cs : tree.ComponentsAt applied) (gathered : List Gathered) → u ≡ [] → cs ≡ file_components
         → Gathers files u x 0 cs gathered → gathered ≡ all_gathered
     gathered_is x u cs gathered e f d =
         one_gathering files (subst (λ ds. Gathers files [] x 0 ds gathered) f (subst (λ v. Gathers files v x 0 cs gathered) e d)) (lines_gather x)
 
-    is_main : {x : Place} {o : Option Place} {u : List ℕ} {cs : tree.Components applied} → HasGrammar files (lines_tree g items) x o u cs → IsMain x o u cs
+    is_main : {x : Place} {o : Option Place} {u : List ℕ} {cs : tree.ComponentsAt applied} → HasGrammar files (lines_tree g items) x o u cs → IsMain x o u cs
     is_main (loaded.main_is e) = record { place = refl; outer = refl; uri = refl; components = e }
     is_main (loaded.nested_is {x} {o} {u} {cs} {gathered} {g = c} {n} h d a b) =
         let m = is_main h in
@@ -154,7 +154,7 @@ module _ (files : List ℕ → Option FileTree) where
       none_around = λ x e. refl;
     }
       where
-        only : (x : Place) (all : List Component) → components_at g items x ≡ Some all → (o : Option Place) × (u : List ℕ) × (cs : tree.Components applied)
+        only : (x : Place) (all : List Component) → components_at g items x ≡ Some all → (o : Option Place) × (u : List ℕ) × (cs : tree.ComponentsAt applied)
             × HasGrammar files (lines_tree g items) x o u cs
         only [] all e = (None, [], file_components, main_there)
         only (n ∷ x) all e = none_is_some e

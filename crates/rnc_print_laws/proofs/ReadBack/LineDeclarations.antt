@@ -110,19 +110,19 @@ module _ (ns : List (List ℕ)) where
     parts [] vs h = (tt, h)
     parts (u ∷ us) vs h = let r = parts us vs h.1 in ((h.0, r.0), r.1)
 
-    members_known : (t : syntax.NameClass written) → AllKnown (prefixes_of_class t) → AllKnown (prefixes_of_classes (syntax.classes_of (lines.members_in t)))
+    members_known : (t : syntax.NameClassAt written) → AllKnown (prefixes_of_class t) → AllKnown (prefixes_of_classes (syntax.classes_of (lines.members_in t)))
     members_known syntax.any_name h = tt
     members_known (syntax.any_except c) h = both_known (prefixes_of_class c) [] h tt
     members_known (syntax.ns_name p) h = (h.0, tt)
     members_known (syntax.ns_except p c) h = both_known (namespace_prefix p ∷ prefixes_of_class c) [] h tt
     members_known (syntax.name_is n) h = both_known (prefixes_of_name n) [] h tt
-    members_known (syntax.one_of cs) h = subst (λ (x : syntax.NameClasses written). AllKnown (prefixes_of_classes x)) (sym (listed cs)) h
+    members_known (syntax.one_of cs) h = subst (λ (x : syntax.NameClassesAt written). AllKnown (prefixes_of_classes x)) (sym (listed cs)) h
       where
-        listed : (cs : syntax.NameClasses written) → syntax.classes_of (lines.list_of cs) ≡ cs
+        listed : (cs : syntax.NameClassesAt written) → syntax.classes_of (lines.list_of cs) ≡ cs
         listed syntax.no_classes = refl
         listed (syntax.class_and c cs) = ap (syntax.class_and c) (listed cs)
 
-    classes_both : (xs ys : List (syntax.NameClass written)) → AllKnown (prefixes_of_classes (syntax.classes_of xs))
+    classes_both : (xs ys : List (syntax.NameClassAt written)) → AllKnown (prefixes_of_classes (syntax.classes_of xs))
         → AllKnown (prefixes_of_classes (syntax.classes_of ys))
         → AllKnown (prefixes_of_classes (syntax.classes_of (xs ++ ys)))
     classes_both [] ys h i = i
@@ -206,7 +206,7 @@ module _ (ns : List (List ℕ)) where
         both_known (prefixes_of_pattern (lines.reference_of items a)) (prefixes_of_pattern (lines.reference_of items b) ++ []) (reference_known items a)
         (both_known (prefixes_of_pattern (lines.reference_of items b)) [] (reference_known items b) tt)
 
-    abbrev defines : Grammar → List PrintedItem → List PrintedItem → List (syntax.Component written)
+    abbrev defines : Grammar → List PrintedItem → List PrintedItem → List (syntax.ComponentAt written)
     defines g items some = map (λ i. syntax.define (item_name items i) methods.Plain (lines.item_pattern g ns items i)) some
 
     defines_known : (g : Grammar) (items some : List PrintedItem) → AllByRecursion (λ i. AllByRecursion KnowsPrefix (namespaces_of g i)) some

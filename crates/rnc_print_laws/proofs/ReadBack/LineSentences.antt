@@ -16,7 +16,7 @@ use Rattle.rng_model.specs.declared.method.Method.TheVariants as methods
 use Rattle.rnc_model.specs.tokens.Cut.{Lexeme, lexeme_at, identifier}
 use Rattle.rnc_model.specs.tokens.Cut as lexeme
 use Rattle.rnc_model.specs.grammar.Syntax as syntax
-use Rattle.rnc_model.specs.grammar.Syntax.{written, NameClass, Pattern, Component, string_type, token_type}
+use Rattle.rnc_model.specs.grammar.Syntax.{written, NameClassAt, PatternAt, ComponentAt, string_type, token_type}
 use Rattle.rnc_model.specs.grammar.Syntax.{choice_of, classes_of}
 use Rattle.rnc_model.specs.grammar.NameClasses.{word_of, type_of, IsLiteral, one_segment, more_segments, AreParameters, no_parameters}
 use Rattle.rnc_model.specs.grammar.NameClasses.{and_parameter, MayBeParameters, without_parameters, with_parameters, IsClass, basic_class, choice_class}
@@ -106,17 +106,17 @@ is_literal w n = subst (λ (x : List ℕ). IsLiteral (lexemes_from n (literal_ma
 
 -- ---- name classes
 
-listed : (cs : List (NameClass written)) → list_of (classes_of cs) ≡ cs
+listed : (cs : List (NameClassAt written)) → list_of (classes_of cs) ≡ cs
 listed [] = refl
-listed (c ∷ cs) = ap (λ (x : List (NameClass written)). c ∷ x) (listed cs)
+listed (c ∷ cs) = ap (λ (x : List (NameClassAt written)). c ∷ x) (listed cs)
 
 unannotated : MayBeAnnotation []
 unannotated = without_annotation refl
 
-bare : {ts : List Lexeme} {c : NameClass written} → IsBareBasic ts c → IsBasic ts c
+bare : {ts : List Lexeme} {c : NameClassAt written} → IsBareBasic ts c → IsBasic ts c
 bare b = annotated_basic unannotated b refl
 
-in_parentheses : (n : ℕ) (ms : List Mark) (t : NameClass written) → IsClass (lexemes_from (suc n) ms) t → IsBasic (lexemes_from n (in_parentheses_if true ms)) t
+in_parentheses : (n : ℕ) (ms : List Mark) (t : NameClassAt written) → IsClass (lexemes_from (suc n) ms) t → IsBasic (lexemes_from n (in_parentheses_if true ms)) t
 in_parentheses n ms t c =
     bare (class_in_parens c (ap (λ (x : List Lexeme). lexeme.sign signs.OpenParenthesis ∷ x) (lexemes_append (suc n) ms (sign signs.CloseParenthesis ∷ []))))
 
@@ -125,7 +125,7 @@ name_basic ns [] l n = bare (word_class (word_is l n) refl)
 name_basic ns (c ∷ u) l n = bare (cname_class refl)
 
 -- a member and those after it
-and_more : (n : ℕ) (ms ks : List Mark) (t : NameClass written) (b : List Lexeme) (ts : List (NameClass written)) → IsBasic (lexemes_from (suc n) ms) t
+and_more : (n : ℕ) (ms ks : List Mark) (t : NameClassAt written) (b : List Lexeme) (ts : List (NameClassAt written)) → IsBasic (lexemes_from (suc n) ms) t
     → AreMoreClasses b ts
     → lexemes_from (place_behind (suc n) ms) ks ≡ b → AreMoreClasses (lexemes_from n (space ∷ sign signs.Bar ∷ space ∷ (ms ++ ks))) (t ∷ ts)
 and_more n ms ks t b ts basic more e =
@@ -133,7 +133,7 @@ and_more n ms ks t b ts basic more e =
     (ap (λ (x : List Lexeme). lexeme.sign signs.Bar ∷ x) (lexemes_append (suc n) ms ks ∙ ap (λ (x : List Lexeme). lexemes_from (suc n) ms ++ x) e))
 
 -- the last member
-and_last : (n : ℕ) (ms : List Mark) (t : NameClass written) → IsBasic (lexemes_from (suc n) ms) t
+and_last : (n : ℕ) (ms : List Mark) (t : NameClassAt written) → IsBasic (lexemes_from (suc n) ms) t
     → AreMoreClasses (lexemes_from n (space ∷ sign signs.Bar ∷ space ∷ (ms ++ []))) (t ∷ [])
 and_last n ms t basic = last_class basic (ap (λ (x : List Mark). lexeme.sign signs.Bar ∷ lexemes_from (suc n) x) (append-nil ms))
 
@@ -143,12 +143,12 @@ Basic ns c = (n : ℕ) → IsBasic (lexemes_from n (in_parentheses_if (is_choice
 
 abbrev First : List (List ℕ) → names.NameClass → Type 0
 First ns c =
-    (n : ℕ) (b : List Lexeme) (ts : List (NameClass written)) → AreMoreClasses b ts
+    (n : ℕ) (b : List Lexeme) (ts : List (NameClassAt written)) → AreMoreClasses b ts
     → IsClass (lexemes_from n (in_parentheses_if (is_except c) (class_marks ns c)) ++ b) (choice_of (members_in (class_of ns c) ++ ts))
 
 -- the first member of a choice is a choice, whose members become members
-first_choice : (n : ℕ) (left right : List Mark) (t : List (NameClass written)) (us : List (NameClass written)) (b : List Lexeme) (ts : List (NameClass written))
-    → ((b : List Lexeme) (ts : List (NameClass written)) → AreMoreClasses b ts → IsClass (lexemes_from n left ++ b) (choice_of (t ++ ts)))
+first_choice : (n : ℕ) (left right : List Mark) (t : List (NameClassAt written)) (us : List (NameClassAt written)) (b : List Lexeme) (ts : List (NameClassAt written))
+    → ((b : List Lexeme) (ts : List (NameClassAt written)) → AreMoreClasses b ts → IsClass (lexemes_from n left ++ b) (choice_of (t ++ ts)))
     → AreMoreClasses (lexemes_from (place_behind n left) right ++ b) (us ++ ts)
     → IsClass (lexemes_from n (left ++ right) ++ b) (choice_of (members_in (choice_of (t ++ us)) ++ ts))
 first_choice n left right t us b ts first more =
@@ -156,7 +156,7 @@ first_choice n left right t us b ts first more =
     (first (lexemes_from (place_behind n left) right ++ b) (us ++ ts) more)
 
 -- more members after members
-more_behind : {a : List Lexeme} {us : List (NameClass written)} → AreMoreClasses a us → (b : List Lexeme) (ts : List (NameClass written)) → AreMoreClasses b ts
+more_behind : {a : List Lexeme} {us : List (NameClassAt written)} → AreMoreClasses a us → (b : List Lexeme) (ts : List (NameClassAt written)) → AreMoreClasses b ts
     → AreMoreClasses (a ++ b) (us ++ ts)
 more_behind (last_class {ts = a} {a = x} {c} basic e) b ts more = more_classes basic more (ap (λ (y : List Lexeme). y ++ b) e)
 more_behind (more_classes {ts = a} {cs} {a = x} {b = y} {c} basic rest e) b ts more =
@@ -266,7 +266,7 @@ may_be_parameters (p ∷ ps) n =
 abbrev pub AreIdentifiers : List PrintedItem → Type 0
 AreIdentifiers items = (i : PrintedItem) → keyword_of (item_name items i) ≡ None
 
-bare_primary : {ts : List Lexeme} {t : Pattern written} → IsBarePrimary ts t → IsPrimary ts t
+bare_primary : {ts : List Lexeme} {t : PatternAt written} → IsBarePrimary ts t → IsPrimary ts t
 bare_primary p = annotated_primary unannotated p refl
 
 name_primary : (items : List PrintedItem) → AreIdentifiers items → (i : PrintedItem) (n : ℕ)
@@ -308,11 +308,11 @@ reference_pattern : (items : List PrintedItem) → AreIdentifiers items → (s :
     → IsPattern (lexemes_from n (reference_marks items s)) (reference_of items s)
 reference_pattern items ids s n k = one_particle (once (reference_primary items ids s n k))
 
-braced : (n : ℕ) (ms : List Mark) (t : Pattern written) → IsPattern (lexemes_from (suc n) ms) t → IsBraced (lexemes_from n (braced_marks ms)) t
+braced : (n : ℕ) (ms : List Mark) (t : PatternAt written) → IsPattern (lexemes_from (suc n) ms) t → IsBraced (lexemes_from n (braced_marks ms)) t
 braced n ms t p = in_braces p (ap (λ (x : List Lexeme). lexeme.sign signs.OpenBrace ∷ x) (lexemes_append (suc n) ms (space ∷ sign signs.CloseBrace ∷ [])))
 
 -- members on both sides of a connector
-two_members : (items : List PrintedItem) (k : Connector) (a b : List Mark) (t u : Pattern written) (n : ℕ) → IsPrimary (lexemes_from n a) t
+two_members : (items : List PrintedItem) (k : Connector) (a b : List Mark) (t u : PatternAt written) (n : ℕ) → IsPrimary (lexemes_from n a) t
     → ((n : ℕ) → IsPrimary (lexemes_from n b) u) → IsPattern (lexemes_from n (a ++ (connector_marks k ++ b))) (syntax.members k (t ∷ u ∷ []))
 two_members items choice a b t u n p q =
     particles {s = signs.Bar} refl (once p) (last_particle (once (q (suc (place_behind n a)))) refl) (lexemes_append n a (connector_marks choice ++ b)) refl
@@ -336,16 +336,16 @@ classed : (ns : List (List ℕ)) (items : List PrintedItem) (c : names.NameClass
     ≡ lexemes_from n (class_marks ns c) ++ lexemes_from (place_behind n (class_marks ns c)) (braced_marks (reference_marks items a))
 classed ns items c a n = lexemes_append n (class_marks ns c) (space ∷ braced_marks (reference_marks items a))
 
-list_word : (n : ℕ) (ts : List Lexeme) (t : Pattern written) → IsBraced ts t → IsPrimary (word_at (codes "list") n ∷ ts) (syntax.list t)
+list_word : (n : ℕ) (ts : List Lexeme) (t : PatternAt written) → IsBraced ts t → IsPrimary (word_at (codes "list") n ∷ ts) (syntax.list t)
 unfolding keyword_of
 list_word n ts t b = bare_primary (grammar.list b refl)
 
-attribute_word : (n : ℕ) (ts a b : List Lexeme) (c : NameClass written) (t : Pattern written) → IsClass a c → IsBraced b t → ts ≡ a ++ b
+attribute_word : (n : ℕ) (ts a b : List Lexeme) (c : NameClassAt written) (t : PatternAt written) → IsClass a c → IsBraced b t → ts ≡ a ++ b
     → IsPrimary (word_at (codes "attribute") n ∷ ts) (syntax.attribute c t)
 unfolding keyword_of
 attribute_word n ts a b c t p q e = bare_primary (grammar.attribute p q (ap (λ (x : List Lexeme). word_at (codes "attribute") n ∷ x) e))
 
-element_word : (n : ℕ) (ts a b : List Lexeme) (c : NameClass written) (t : Pattern written) → IsClass a c → IsBraced b t → ts ≡ a ++ b
+element_word : (n : ℕ) (ts a b : List Lexeme) (c : NameClassAt written) (t : PatternAt written) → IsClass a c → IsBraced b t → ts ≡ a ++ b
     → IsPrimary (word_at (codes "element") n ∷ ts) (syntax.element c t)
 unfolding keyword_of
 element_word n ts a b c t p q e = bare_primary (grammar.element p q (ap (λ (x : List Lexeme). word_at (codes "element") n ∷ x) e))
@@ -392,17 +392,17 @@ item_sentence g ns items ids (element e) n k =
     (braced (place_behind (suc n) (class_marks ns c)) (reference_marks items a) _ (reference_pattern items ids a _ k)) (classed ns items c a (suc n))))
 item_sentence g ns items ids (pattern s) n k = pattern_sentence ns items ids s n k
 
-bare_component : {ts : List Lexeme} {c : Component written} → IsBareComponent content ts c → IsComponent content ts c
+bare_component : {ts : List Lexeme} {c : ComponentAt written} → IsBareComponent content ts c → IsComponent content ts c
 bare_component b = annotated_component unannotated b refl
 
-define_line : (name : List ℕ) (ms : List Mark) (t : Pattern written) (n : ℕ) → keyword_of name ≡ None → IsPattern (lexemes_from (suc (suc n)) ms) t
+define_line : (name : List ℕ) (ms : List Mark) (t : PatternAt written) (n : ℕ) → keyword_of name ≡ None → IsPattern (lexemes_from (suc (suc n)) ms) t
     → IsComponent content (lexemes_from n (line_marks name ms)) (syntax.define name methods.Plain t)
 define_line name ms t n e p =
     bare_component (grammar.define {x = lexeme.sign signs.Equal} refl p
     (ap (λ (x : Lexeme). x ∷ lexeme.sign signs.Equal ∷ lexemes_from (suc (suc n)) (ms ++ line_end ∷ [])) (identifier_is name n e)
     ∙ ap (λ (x : List Lexeme). identifier name ∷ lexeme.sign signs.Equal ∷ x) (lexemes_line (suc (suc n)) ms)))
 
-start_line : (ms : List Mark) (t : Pattern written) (n : ℕ) → IsPattern (lexemes_from (suc (suc n)) ms) t
+start_line : (ms : List Mark) (t : PatternAt written) (n : ℕ) → IsPattern (lexemes_from (suc (suc n)) ms) t
     → IsComponent content (lexemes_from n (line_marks (codes "start") ms)) (syntax.start methods.Plain t)
 unfolding keyword_of
 start_line ms t n p =

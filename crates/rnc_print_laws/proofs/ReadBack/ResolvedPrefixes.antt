@@ -37,29 +37,29 @@ prefix_in s ns u k = k
 
 -- ---- name classes
 
-listed : (cs : List (syntax.NameClass written)) → lines.list_of (syntax.classes_of cs) ≡ cs
+listed : (cs : List (syntax.NameClassAt written)) → lines.list_of (syntax.classes_of cs) ≡ cs
 listed [] = refl
-listed (c ∷ cs) = ap (λ (x : List (syntax.NameClass written)). c ∷ x) (listed cs)
+listed (c ∷ cs) = ap (λ (x : List (syntax.NameClassAt written)). c ∷ x) (listed cs)
 
-tree_listed : (cs : List (syntax.NameClass applied)) → trees.list_of (syntax.classes_of cs) ≡ cs
+tree_listed : (cs : List (syntax.NameClassAt applied)) → trees.list_of (syntax.classes_of cs) ≡ cs
 tree_listed [] = refl
-tree_listed (c ∷ cs) = ap (λ (x : List (syntax.NameClass applied)). c ∷ x) (tree_listed cs)
+tree_listed (c ∷ cs) = ap (λ (x : List (syntax.NameClassAt applied)). c ∷ x) (tree_listed cs)
 
 -- the first classes, resolved, are the second ones
-abbrev Become : Scope → Namespace → List (syntax.NameClass written) → List (syntax.NameClass applied) → Type 0
+abbrev Become : Scope → Namespace → List (syntax.NameClassAt written) → List (syntax.NameClassAt applied) → Type 0
 Become s d [] [] = Unit {0}
 Become s d (x ∷ xs) (u ∷ us) = (class_in s d x ≡ Some u) × Become s d xs us
 Become s d [] (u ∷ us) = ⊥
 Become s d (x ∷ xs) [] = ⊥
 
-both_become : (s : Scope) (d : Namespace) (xs ys : List (syntax.NameClass written)) (us vs : List (syntax.NameClass applied)) → Become s d xs us
+both_become : (s : Scope) (d : Namespace) (xs ys : List (syntax.NameClassAt written)) (us vs : List (syntax.NameClassAt applied)) → Become s d xs us
     → Become s d ys vs → Become s d (xs ++ ys) (us ++ vs)
 both_become s d [] ys [] vs e f = f
 both_become s d (x ∷ xs) ys (u ∷ us) vs e f = (e.0, both_become s d xs ys us vs e.1 f)
 both_become s d [] ys (u ∷ us) vs e f = absurd e
 both_become s d (x ∷ xs) ys [] vs e f = absurd e
 
-all_become : (s : Scope) (d : Namespace) (xs : List (syntax.NameClass written)) (us : List (syntax.NameClass applied)) → Become s d xs us
+all_become : (s : Scope) (d : Namespace) (xs : List (syntax.NameClassAt written)) (us : List (syntax.NameClassAt applied)) → Become s d xs us
     → classes_in s d (syntax.classes_of xs) ≡ Some (syntax.classes_of us)
 all_become s d [] [] e = refl
 all_become s d (x ∷ xs) (u ∷ us) e = rw (e.0, all_become s d xs us e.1) refl

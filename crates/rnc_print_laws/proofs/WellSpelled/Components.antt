@@ -58,12 +58,12 @@ members_spelled k (p ∷ (q ∷ ps)) h = (h.0, h.1.0, patterns_spelled ps h.1.1)
 
 -- ---- grammars of files
 
-whole_spelled : (p : tree.Pattern applied) (cs : tree.Components applied) → whole_grammar p ≡ Some cs → spelled.IsWellSpelledPattern p
+whole_spelled : (p : tree.PatternAt applied) (cs : tree.ComponentsAt applied) → whole_grammar p ≡ Some cs → spelled.IsWellSpelledPattern p
     → AreWellSpelledComponents cs
 whole_spelled (tree.grammar ds) cs e h = subst AreWellSpelledComponents (same_Some _ _ e) h
 whole_spelled _ cs e h = absurd (none-some _ e)
 
-grammar_spelled : (t : FileTree) (cs : tree.Components applied) → grammar_components t ≡ Some cs → IsWellSpelledFile t → AreWellSpelledComponents cs
+grammar_spelled : (t : FileTree) (cs : tree.ComponentsAt applied) → grammar_components t ≡ Some cs → IsWellSpelledFile t → AreWellSpelledComponents cs
 grammar_spelled (grammar_file ds) cs e h = subst AreWellSpelledComponents (same_Some _ _ e) h
 grammar_spelled (pattern_file p) cs e h = whole_spelled p cs e h
 
@@ -71,7 +71,7 @@ main_spelled : (t : FileTree) → IsWellSpelledFile t → AreWellSpelledComponen
 main_spelled (grammar_file cs) h = h
 main_spelled (pattern_file p) h = by_grammar (whole_grammar p) refl
   where
-    by_grammar : (o : Option (tree.Components applied)) → whole_grammar p ≡ o → AreWellSpelledComponents (grammar_or_start p o)
+    by_grammar : (o : Option (tree.ComponentsAt applied)) → whole_grammar p ≡ o → AreWellSpelledComponents (grammar_or_start p o)
     by_grammar None e = (h, tt)
     by_grammar (Some cs) e = whole_spelled p cs e h
 
@@ -85,7 +85,7 @@ IsSpelledGathered g = IsWellSpelledComponent g.component × AllByRecursion IsSpe
 
 module _ (files : List ℕ → Option FileTree) (good : (f : List ℕ) (t : FileTree) → files f ≡ Some t → IsWellSpelledFile t) where
   mutual
-    reads : {u : List ℕ} {x : TreePath} {a : tree.Pattern applied} {p : Pattern} {gs : List Nested} → Reads files u x a p gs → IsText u
+    reads : {u : List ℕ} {x : TreePath} {a : tree.PatternAt applied} {p : Pattern} {gs : List Nested} → Reads files u x a p gs → IsText u
         → spelled.IsWellSpelledPattern a → IsWellSpelledPattern p × AllByRecursion IsSpelledNested gs
     reads (places.element_is {u} d) i h = let r = reads d i h.1 in ((h.0 u i, r.0), r.1)
     reads (places.attribute_is {u} d) i h = let r = reads d i h.1 in ((h.0 u i, r.0), r.1)
@@ -107,7 +107,7 @@ module _ (files : List ℕ → Option FileTree) (good : (f : List ℕ) (t : File
     reads (places.grammar_file_is {u} {x} {m} {cs} f) i h = (tt, ((uri_text u m.inherit i h.1, good m.href (grammar_file cs) f), tt))
     reads (places.joined_is {u} {x} {k} {all} {ps} ds) i h = let r = read_all ds i h in (members_spelled k ps r.0, r.1)
 
-    read_all : {u : List ℕ} {x : TreePath} {n : ℕ} {all : tree.Patterns applied} {ps : List Pattern} {gs : List Nested} → ReadAll files u x n all ps gs
+    read_all : {u : List ℕ} {x : TreePath} {n : ℕ} {all : tree.PatternsAt applied} {ps : List Pattern} {gs : List Nested} → ReadAll files u x n all ps gs
         → IsText u → AreWellSpelledPatterns all → AllByRecursion IsWellSpelledPattern ps × AllByRecursion IsSpelledNested gs
     read_all places.none_are i h = (tt, tt)
     read_all (places.more_are {u} {x} {n} {a} {all} {p} {ps} {gs} {hs} d ds e) i h =
@@ -115,7 +115,7 @@ module _ (files : List ℕ → Option FileTree) (good : (f : List ℕ) (t : File
         let rs = read_all ds i h.1 in
         ((r.0, rs.0), all_same IsSpelledNested e (all_append IsSpelledNested gs hs r.1 rs.1))
 
-  gathers : {u : List ℕ} {x : TreePath} {n : ℕ} {cs : tree.Components applied} {all : List Gathered} → Gathers files u x n cs all → IsText u
+  gathers : {u : List ℕ} {x : TreePath} {n : ℕ} {cs : tree.ComponentsAt applied} {all : List Gathered} → Gathers files u x n cs all → IsText u
       → AreWellSpelledComponents cs → AllByRecursion IsSpelledGathered all
   gathers loaded.nothing i h = tt
   gathers (loaded.a_start d ds) i h = let r = reads d i h.0 in (((tt, r.0), r.1), gathers ds i h.1)
@@ -130,7 +130,7 @@ module _ (files : List ℕ → Option FileTree) (good : (f : List ℕ) (t : File
       (gathers es i h.1))
 
   module _ (main : FileTree) (main-is : IsWellSpelledFile main) where
-    grammar_there : {x : Place} {o : Option Place} {u : List ℕ} {cs : tree.Components applied} → HasGrammar files main x o u cs
+    grammar_there : {x : Place} {o : Option Place} {u : List ℕ} {cs : tree.ComponentsAt applied} → HasGrammar files main x o u cs
         → IsText u × AreWellSpelledComponents cs
     grammar_there (loaded.main_is e) = (empty_text, subst AreWellSpelledComponents (sym e) (main_spelled main main-is))
     grammar_there (loaded.nested_is {x} {o} {u} {cs} {gathered} {g} {n} has ds m k) =

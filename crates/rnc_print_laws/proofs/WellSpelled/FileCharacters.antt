@@ -12,7 +12,7 @@ use Rattle.rnc_model.specs.characters.Decoding.{number_of, numbers_of, bytes_of,
 use Rattle.rnc_model.specs.tokens.Cut.{Cuts}
 use Rattle.rnc_model.specs.tokens.Cut as cut
 use Rattle.rnc_model.specs.characters.Decoding as decoding
-use Rattle.rnc_model.specs.tokens.Tokens.{Piece, characters_in, IsPiece, IsNcname}
+use Rattle.rnc_model.specs.tokens.Tokens.{Piece, characters_in, IsGapOrToken, IsNcname}
 use Rattle.rnc_model.specs.declared.character.Character.{Character}
 use Rattle.rnc_print_laws.specs.plain.Printable.{IsText, IsName}
 
@@ -112,7 +112,7 @@ name_of cs h n = (utf8_of cs h, ap is_ncname (chars_of cs h) ∙ n)
 
 -- the pieces are good and made of Chars
 abbrev pub IsCharPiece : Piece → Type 0
-IsCharPiece p = IsPiece p × AreChars (characters_in p)
+IsCharPiece p = IsGapOrToken p × AreChars (characters_in p)
 
 pub cut_pieces : {cs rest : List Character} {pieces : List Piece} → Cuts cs pieces rest → AreChars cs → AllByRecursion IsCharPiece pieces
 cut_pieces (cut.here e) h = tt

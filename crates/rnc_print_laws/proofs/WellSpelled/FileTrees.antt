@@ -204,7 +204,7 @@ some_fit n (c ∷ (d ∷ cs)) h =
     in_one_more m l = omega (arith, l)
 
 -- the class of the file tree fits the one of the syntax tree
-abbrev Fits : List ℕ → syntax.NameClass written → syntax.NameClass applied → Type 0
+abbrev Fits : List ℕ → syntax.NameClassAt written → syntax.NameClassAt applied → Type 0
 Fits u c t = HasNames (places.class_in u t) × (parentheses (places.class_in u t) ≤ inside c) × (enclosed (places.class_in u t) ≤ around c)
 
 namespace_text : (s : Scope) → IsTextScope s → (p : List ℕ) (v : Namespace) → namespace_in s p ≡ Some v → IsTextNamespace v
@@ -223,17 +223,17 @@ default_of_text s i = by_default s.default refl
 
 module _ (s : Scope) (i : IsTextScope s) where
   module _ (ns : Namespace) (ns-is : IsTextNamespace ns) (u : List ℕ) (u-is : IsText u) where
-    name_spelled : (n : syntax.Name written) (m : syntax.Name applied) → name_in s ns n ≡ Some m → IsSpelledName n
+    name_spelled : (n : syntax.NameAt written) (m : syntax.NameAt applied) → name_in s ns n ≡ Some m → IsSpelledName n
         → IsText (uri_in u m.namespace) × IsName m.local
     name_spelled (syntax.unprefixed l) m e h =
-        subst (λ (m : syntax.Name applied). IsText (uri_in u m.namespace) × IsName m.local) (same_Some _ _ e) (uri_text u ns u-is ns-is, h)
+        subst (λ (m : syntax.NameAt applied). IsText (uri_in u m.namespace) × IsName m.local) (same_Some _ _ e) (uri_text u ns u-is ns-is, h)
     name_spelled (syntax.prefixed p l) m e h =
         let a = bind_some (namespace_in s p) _ e in
-        subst (λ (m : syntax.Name applied). IsText (uri_in u m.namespace) × IsName m.local) (same_Some _ _ a.2)
+        subst (λ (m : syntax.NameAt applied). IsText (uri_in u m.namespace) × IsName m.local) (same_Some _ _ a.2)
         (uri_text u a.0 u-is (namespace_text s i p a.0 a.1), h)
 
     mutual
-      class_spelled : (c : syntax.NameClass written) (t : syntax.NameClass applied) → class_in s ns c ≡ Some t → IsSpelledClass c → Fits u c t
+      class_spelled : (c : syntax.NameClassAt written) (t : syntax.NameClassAt applied) → class_in s ns c ≡ Some t → IsSpelledClass c → Fits u c t
       class_spelled syntax.any_name t e h = subst (Fits u syntax.any_name) (same_Some _ _ e) (tt, omega arith, omega arith)
       class_spelled (syntax.any_except c) t e h =
           let a = bind_some (class_in s ns c) _ e in
@@ -257,20 +257,20 @@ module _ (s : Scope) (i : IsTextScope s) where
           subst (Fits u (syntax.one_of cs)) (same_Some _ _ a.2)
           (some_fit (around_all cs) (places.classes_in u a.0) (classes_spelled cs a.0 a.1 h (around_all cs) (omega arith)))
 
-      classes_spelled : (cs : syntax.NameClasses written) (ts : syntax.NameClasses applied) → classes_in s ns cs ≡ Some ts → AreSpelledClasses cs → (n : ℕ)
+      classes_spelled : (cs : syntax.NameClassesAt written) (ts : syntax.NameClassesAt applied) → classes_in s ns cs ≡ Some ts → AreSpelledClasses cs → (n : ℕ)
           → around_all cs ≤ n → AllByRecursion (FitsIn n) (places.classes_in u ts)
       classes_spelled syntax.no_classes ts e h n l =
-          subst (λ (ts : syntax.NameClasses applied). AllByRecursion (FitsIn n) (places.classes_in u ts)) (same_Some _ _ e) tt
+          subst (λ (ts : syntax.NameClassesAt applied). AllByRecursion (FitsIn n) (places.classes_in u ts)) (same_Some _ _ e) tt
       classes_spelled (syntax.class_and c cs) ts e h n l =
           let a = bind_some (class_in s ns c) _ e in
           let b = bind_some (classes_in s ns cs) _ a.2 in
           let f = class_spelled c a.0 a.1 h.0 in
           let k : around c ≤ n = omega (arith, l) in
           let m : around_all cs ≤ n = omega (arith, l) in
-          subst (λ (ts : syntax.NameClasses applied). AllByRecursion (FitsIn n) (places.classes_in u ts)) (same_Some _ _ b.2)
+          subst (λ (ts : syntax.NameClassesAt applied). AllByRecursion (FitsIn n) (places.classes_in u ts)) (same_Some _ _ b.2)
           ((f.0, below (enclosed (places.class_in u a.0)) (around c) n f.2 k), classes_spelled cs b.0 b.1 h.1 n m)
 
-  nested_spelled : (ns : Namespace) → IsTextNamespace ns → (c : syntax.NameClass written) (t : syntax.NameClass applied) → class_in s ns c ≡ Some t
+  nested_spelled : (ns : Namespace) → IsTextNamespace ns → (c : syntax.NameClassAt written) (t : syntax.NameClassAt applied) → class_in s ns c ≡ Some t
       → IsSpelledClass c × (inside c ≤ nesting_limit) → IsWellSpelledClass t
   nested_spelled ns ns-is c t e h = λ u u-is.
       let f = class_spelled ns ns-is u u-is c t e h.0 in
@@ -302,7 +302,7 @@ module _ (s : Scope) (i : IsTextScope s) where
       handed (Some p) v e = namespace_text s i p v e
 
   mutual
-    pattern_spelled : (p : syntax.Pattern written) (t : syntax.Pattern applied) → pattern_in s p ≡ Some t → IsSpelledPattern p → IsWellSpelledPattern t
+    pattern_spelled : (p : syntax.PatternAt written) (t : syntax.PatternAt applied) → pattern_in s p ≡ Some t → IsSpelledPattern p → IsWellSpelledPattern t
     pattern_spelled (syntax.element c p) t e h =
         let a = bind_some (class_in s (default_of s) c) _ e in
         let b = bind_some (pattern_in s p) _ a.2 in
@@ -342,7 +342,7 @@ module _ (s : Scope) (i : IsTextScope s) where
     pattern_spelled (syntax.joined k ps) t e h =
         let a = bind_some (patterns_in s ps) _ e in subst IsWellSpelledPattern (same_Some _ _ a.2) (patterns_spelled ps a.0 a.1 h)
 
-    patterns_spelled : (ps : syntax.Patterns written) (ts : syntax.Patterns applied) → patterns_in s ps ≡ Some ts → AreSpelledPatterns ps
+    patterns_spelled : (ps : syntax.PatternsAt written) (ts : syntax.PatternsAt applied) → patterns_in s ps ≡ Some ts → AreSpelledPatterns ps
         → AreWellSpelledPatterns ts
     patterns_spelled syntax.no_patterns ts e h = subst AreWellSpelledPatterns (same_Some _ _ e) tt
     patterns_spelled (syntax.pattern_and p ps) ts e h =
@@ -350,7 +350,7 @@ module _ (s : Scope) (i : IsTextScope s) where
         let b = bind_some (patterns_in s ps) _ a.2 in
         subst AreWellSpelledPatterns (same_Some _ _ b.2) (pattern_spelled p a.0 a.1 h.0, patterns_spelled ps b.0 b.1 h.1)
 
-    component_spelled : (c : syntax.Component written) (t : syntax.Component applied) → component_in s c ≡ Some t → IsSpelledComponent c
+    component_spelled : (c : syntax.ComponentAt written) (t : syntax.ComponentAt applied) → component_in s c ≡ Some t → IsSpelledComponent c
         → IsWellSpelledComponent t
     component_spelled (syntax.start m p) t e h =
         let a = bind_some (pattern_in s p) _ e in subst IsWellSpelledComponent (same_Some _ _ a.2) (pattern_spelled p a.0 a.1 h)
@@ -363,7 +363,7 @@ module _ (s : Scope) (i : IsTextScope s) where
         let b = bind_some (components_in s cs) _ a.2 in
         subst IsWellSpelledComponent (same_Some _ _ b.2) (mention_text m a.0 a.1 h.0, components_spelled cs b.0 b.1 h.1)
 
-    components_spelled : (cs : syntax.Components written) (ts : syntax.Components applied) → components_in s cs ≡ Some ts → AreSpelledComponents cs
+    components_spelled : (cs : syntax.ComponentsAt written) (ts : syntax.ComponentsAt applied) → components_in s cs ≡ Some ts → AreSpelledComponents cs
         → AreWellSpelledComponents ts
     components_spelled syntax.no_components ts e h = subst AreWellSpelledComponents (same_Some _ _ e) tt
     components_spelled (syntax.component_and c cs) ts e h =

@@ -16,7 +16,7 @@ use Rattle.rnc_model.specs.grammar.Grammar.{Setting, IsPattern, AreMore, IsParti
 use Rattle.rnc_model.specs.grammar.Grammar.{IsComponent, IsBareComponent, MayOverride, IsUri, IsDeclaration, AreDeclarations, IsBody, IsFile}
 use Rattle.rnc_model.specs.tokens.Cut.{Lexeme}
 use Rattle.rnc_model.specs.grammar.Syntax as syntax
-use Rattle.rnc_model.specs.grammar.Syntax.{written, Name, NameClass, NameClasses, Pattern, Patterns, Component, Components, Uri, Declaration, Body, File}
+use Rattle.rnc_model.specs.grammar.Syntax.{written, NameAt, NameClassAt, NameClassesAt, PatternAt, PatternsAt, ComponentAt, ComponentsAt, Uri, Declaration, Body, File}
 use Rattle.rnc_model.specs.grammar.Sentence.{nesting_limit}
 use Rattle.rnc_print_laws.specs.plain.Printable.{IsText, IsName, IsPrintableParameter}
 use Rattle.rnc_print_laws.proofs.WellSpelled.RoomForBrackets.{Keeps, both, in_braces, in_parentheses, at, nothing, so, past_keyword, past_identifier, past_name}
@@ -27,12 +27,12 @@ use Rattle.rng_simple.proofs.Grammars.SimpleFormParts.{first, second}
 
 -- ---- name classes
 
-abbrev pub IsSpelledName : Name written → Type 0
+abbrev pub IsSpelledName : NameAt written → Type 0
 IsSpelledName (syntax.unprefixed l) = IsName l
 IsSpelledName (syntax.prefixed p l) = IsName l
 
 abbrev mutual
-  pub IsSpelledClass : NameClass written → Type 0
+  pub IsSpelledClass : NameClassAt written → Type 0
   IsSpelledClass syntax.any_name = Unit {0}
   IsSpelledClass (syntax.any_except c) = IsSpelledClass c
   IsSpelledClass (syntax.ns_name p) = Unit {0}
@@ -40,13 +40,13 @@ abbrev mutual
   IsSpelledClass (syntax.name_is n) = IsSpelledName n
   IsSpelledClass (syntax.one_of cs) = AreSpelledClasses cs
 
-  pub AreSpelledClasses : NameClasses written → Type 0
+  pub AreSpelledClasses : NameClassesAt written → Type 0
   AreSpelledClasses syntax.no_classes = Unit {0}
   AreSpelledClasses (syntax.class_and c cs) = IsSpelledClass c × AreSpelledClasses cs
 
 -- how deep parentheses nest at most if the class is a member or an except
 abbrev mutual
-  pub around : NameClass written → ℕ
+  pub around : NameClassAt written → ℕ
   around syntax.any_name = 0
   around (syntax.any_except c) = suc (around c)
   around (syntax.ns_name p) = 0
@@ -54,12 +54,12 @@ abbrev mutual
   around (syntax.name_is n) = 0
   around (syntax.one_of cs) = suc (around_all cs)
 
-  pub around_all : NameClasses written → ℕ
+  pub around_all : NameClassesAt written → ℕ
   around_all syntax.no_classes = 0
   around_all (syntax.class_and c cs) = max (around c) (around_all cs)
 
 -- the same if the class is alone
-abbrev pub inside : NameClass written → ℕ
+abbrev pub inside : NameClassAt written → ℕ
 inside syntax.any_name = 0
 inside (syntax.any_except c) = around c
 inside (syntax.ns_name p) = 0
@@ -67,7 +67,7 @@ inside (syntax.ns_except p c) = around c
 inside (syntax.name_is n) = 0
 inside (syntax.one_of cs) = around_all cs
 
-inside_around : (c : NameClass written) → inside c ≤ around c
+inside_around : (c : NameClassAt written) → inside c ≤ around c
 inside_around syntax.any_name = omega arith
 inside_around (syntax.any_except c) = omega arith
 inside_around (syntax.ns_name p) = omega arith
@@ -75,7 +75,7 @@ inside_around (syntax.ns_except p c) = omega arith
 inside_around (syntax.name_is n) = omega arith
 inside_around (syntax.one_of cs) = omega arith
 
-around_inside : (c : NameClass written) → around c ≤ suc (inside c)
+around_inside : (c : NameClassAt written) → around c ≤ suc (inside c)
 around_inside syntax.any_name = omega arith
 around_inside (syntax.any_except c) = omega arith
 around_inside (syntax.ns_name p) = omega arith
@@ -84,13 +84,13 @@ around_inside (syntax.name_is n) = omega arith
 around_inside (syntax.one_of cs) = omega arith
 
 -- the class is well spelled, and its parentheses nest within the limit
-abbrev pub IsNestedClass : NameClass written → Type 0
+abbrev pub IsNestedClass : NameClassAt written → Type 0
 IsNestedClass c = IsSpelledClass c × (inside c ≤ nesting_limit)
 
 -- ---- patterns and components
 
 abbrev mutual
-  pub IsSpelledPattern : Pattern written → Type 0
+  pub IsSpelledPattern : PatternAt written → Type 0
   IsSpelledPattern (syntax.element c p) = IsNestedClass c × IsSpelledPattern p
   IsSpelledPattern (syntax.attribute c p) = IsNestedClass c × IsSpelledPattern p
   IsSpelledPattern (syntax.list p) = IsSpelledPattern p
@@ -110,17 +110,17 @@ abbrev mutual
   IsSpelledPattern (syntax.grammar cs) = AreSpelledComponents cs
   IsSpelledPattern (syntax.joined k ps) = AreSpelledPatterns ps
 
-  pub AreSpelledPatterns : Patterns written → Type 0
+  pub AreSpelledPatterns : PatternsAt written → Type 0
   AreSpelledPatterns syntax.no_patterns = Unit {0}
   AreSpelledPatterns (syntax.pattern_and p ps) = IsSpelledPattern p × AreSpelledPatterns ps
 
-  pub IsSpelledComponent : Component written → Type 0
+  pub IsSpelledComponent : ComponentAt written → Type 0
   IsSpelledComponent (syntax.start m p) = IsSpelledPattern p
   IsSpelledComponent (syntax.define n m p) = IsName n × IsSpelledPattern p
   IsSpelledComponent (syntax.div cs) = AreSpelledComponents cs
   IsSpelledComponent (syntax.include m cs) = IsText m.href × AreSpelledComponents cs
 
-  pub AreSpelledComponents : Components written → Type 0
+  pub AreSpelledComponents : ComponentsAt written → Type 0
   AreSpelledComponents syntax.no_components = Unit {0}
   AreSpelledComponents (syntax.component_and c cs) = IsSpelledComponent c × AreSpelledComponents cs
 
@@ -187,42 +187,42 @@ inherit (name_classes.with_inherit {ts} {w} {x} o e) r = at e (past_keyword (pas
 
 -- ---- name classes
 
-abbrev FitsAround : ℕ → NameClass written → Type 0
+abbrev FitsAround : ℕ → NameClassAt written → Type 0
 FitsAround r c = IsSpelledClass c × (around c ≤ r)
 
-abbrev FitInside : ℕ → List (NameClass written) → Type 0
+abbrev FitInside : ℕ → List (NameClassAt written) → Type 0
 FitInside r cs = AreSpelledClasses (syntax.classes_of cs) × (around_all (syntax.classes_of cs) ≤ r)
 
-one_more_class : (r : ℕ) (c : NameClass written) (cs : List (NameClass written)) → FitsAround r c → FitInside r cs → FitInside r (c ∷ cs)
+one_more_class : (r : ℕ) (c : NameClassAt written) (cs : List (NameClassAt written)) → FitsAround r c → FitInside r cs → FitInside r (c ∷ cs)
 one_more_class r c cs h i = ((h.0, i.0), most (around c) (around_all (syntax.classes_of cs)) h.1 i.1)
   where
     most : (m n : ℕ) → m ≤ r → n ≤ r → max m n ≤ r
     most m n l k = omega (arith, l, k)
 
-basic_inside : (r : ℕ) (c : NameClass written) → FitsAround r c → IsSpelledClass c × (inside c ≤ r)
+basic_inside : (r : ℕ) (c : NameClassAt written) → FitsAround r c → IsSpelledClass c × (inside c ≤ r)
 basic_inside r c h = (h.0, let i = inside_around c in let l = h.1 in omega (arith, i, l))
 
-parentheses_around : (r m : ℕ) (c : NameClass written) → r ≡ suc m → IsSpelledClass c × (inside c ≤ m) → FitsAround r c
+parentheses_around : (r m : ℕ) (c : NameClassAt written) → r ≡ suc m → IsSpelledClass c × (inside c ≤ m) → FitsAround r c
 parentheses_around r m c e h = (h.0, let a = around_inside c in let l = h.1 in omega (arith, e, a, l))
 
 mutual
-  class : {ts : List Lexeme} {c : NameClass written} → IsClass ts c → (r : ℕ) → Keeps ts r (IsSpelledClass c × (inside c ≤ r))
+  class : {ts : List Lexeme} {c : NameClassAt written} → IsClass ts c → (r : ℕ) → Keeps ts r (IsSpelledClass c × (inside c ≤ r))
   class (name_classes.basic_class {ts} {c} b) r = so (basic_inside r c) (basic b r)
   class (name_classes.choice_class {ts} {d} {a} {b} {c} {cs} i more e d-is) r =
-      at e (so (λ p. subst (λ (d : NameClass written). IsSpelledClass d × (inside d ≤ r)) (sym d-is) (one_more_class r c cs (first p) (second p)))
+      at e (so (λ p. subst (λ (d : NameClassAt written). IsSpelledClass d × (inside d ≤ r)) (sym d-is) (one_more_class r c cs (first p) (second p)))
       (both (basic i r) (more_classes more r)))
   class (name_classes.any_except n b e) r = at e (so second (both (annotation n r) (past_sign Star tt (past_sign Minus tt (basic b r)))))
   class (name_classes.ns_except n b e) r = at e (so second (both (annotation n r) (past_ns (past_sign Minus tt (basic b r)))))
 
-  more_classes : {ts : List Lexeme} {cs : List (NameClass written)} → AreMoreClasses ts cs → (r : ℕ) → Keeps ts r (FitInside r cs)
+  more_classes : {ts : List Lexeme} {cs : List (NameClassAt written)} → AreMoreClasses ts cs → (r : ℕ) → Keeps ts r (FitInside r cs)
   more_classes (name_classes.last_class {ts} {a} {c} b e) r = at e (past_sign Bar tt (so (λ p. one_more_class r c [] p (tt, omega arith)) (basic b r)))
   more_classes (name_classes.more_classes {ts} {cs} {a} {b} {c} i more e) r =
       at e (past_sign Bar tt (so (λ p. one_more_class r c cs (first p) (second p)) (both (basic i r) (more_classes more r))))
 
-  basic : {ts : List Lexeme} {c : NameClass written} → IsBasic ts c → (r : ℕ) → Keeps ts r (FitsAround r c)
+  basic : {ts : List Lexeme} {c : NameClassAt written} → IsBasic ts c → (r : ℕ) → Keeps ts r (FitsAround r c)
   basic (name_classes.annotated_basic n b e) r = at e (so second (both (annotation n r) (bare_basic b r)))
 
-  bare_basic : {ts : List Lexeme} {c : NameClass written} → IsBareBasic ts c → (r : ℕ) → Keeps ts r (FitsAround r c)
+  bare_basic : {ts : List Lexeme} {c : NameClassAt written} → IsBareBasic ts c → (r : ℕ) → Keeps ts r (FitsAround r c)
   bare_basic (name_classes.word_class {ts} {x} o e) r = at e (so (λ p. (first p, omega arith)) (past_word x o nothing))
   bare_basic (name_classes.cname_class e) r = at e (so (λ p. (first p, omega arith)) (past_name nothing))
   bare_basic (name_classes.ns_class e) r = at e (so (λ p. (tt, omega arith)) (past_ns nothing))
@@ -231,14 +231,14 @@ mutual
 
 -- ---- patterns and components
 
-nested_class : (r : ℕ) (c : NameClass written) → r ≤ nesting_limit → IsSpelledClass c × (inside c ≤ r) → IsNestedClass c
+nested_class : (r : ℕ) (c : NameClassAt written) → r ≤ nesting_limit → IsSpelledClass c × (inside c ≤ r) → IsNestedClass c
 nested_class r c l h = (h.0, let i = h.1 in omega (arith, l, i))
 
 less_room : (r m : ℕ) → r ≤ nesting_limit → r ≡ suc m → m ≤ nesting_limit
 less_room r m l e = omega (arith, l, e)
 
 mutual
-  pattern : {ts : List Lexeme} {t : Pattern written} → IsPattern ts t → (r : ℕ) → r ≤ nesting_limit → Keeps ts r (IsSpelledPattern t)
+  pattern : {ts : List Lexeme} {t : PatternAt written} → IsPattern ts t → (r : ℕ) → r ≤ nesting_limit → Keeps ts r (IsSpelledPattern t)
   pattern (grammar.one_particle p) r l = particle p r l
   pattern (grammar.particles {ts} {u} {a} {b} {s} {k} {t} {us} c p more e u-is) r l =
       at e (so (λ q. subst IsSpelledPattern (sym u-is) q) (both (particle p r l) (more_particles more k c r l)))
@@ -246,21 +246,21 @@ mutual
       at e (so (λ q. ((first (second q), first (second (second q))), second (second (second q))))
       (both (annotation n r) (past_type x d (both (may_be_parameters ps r) (past_sign Minus tt (primary p r l))))))
 
-  more_particles : {s : Sign} {ts : List Lexeme} {us : List (Pattern written)} → AreMore s ts us → (k : Connector) → connector_of s ≡ Some k
+  more_particles : {s : Sign} {ts : List Lexeme} {us : List (PatternAt written)} → AreMore s ts us → (k : Connector) → connector_of s ≡ Some k
       → (r : ℕ) → r ≤ nesting_limit → Keeps ts r (AreSpelledPatterns (syntax.patterns_of us))
   more_particles (grammar.last_particle {s} p e) k c r l = at e (past_connector s c (so (λ q. (q, tt)) (particle p r l)))
   more_particles (grammar.more_particles {s} p more e) k c r l = at e (past_connector s c (both (particle p r l) (more_particles more k c r l)))
 
-  particle : {ts : List Lexeme} {t : Pattern written} → IsParticle ts t → (r : ℕ) → r ≤ nesting_limit → Keeps ts r (IsSpelledPattern t)
+  particle : {ts : List Lexeme} {t : PatternAt written} → IsParticle ts t → (r : ℕ) → r ≤ nesting_limit → Keeps ts r (IsSpelledPattern t)
   particle (grammar.once p) r l = primary p r l
   particle (grammar.optional p e) r l = at e (so first (both (primary p r l) (past_sign Question tt nothing)))
   particle (grammar.zero_or_more p e) r l = at e (so first (both (primary p r l) (past_sign Star tt nothing)))
   particle (grammar.one_or_more p e) r l = at e (so first (both (primary p r l) (past_sign Plus tt nothing)))
 
-  primary : {ts : List Lexeme} {t : Pattern written} → IsPrimary ts t → (r : ℕ) → r ≤ nesting_limit → Keeps ts r (IsSpelledPattern t)
+  primary : {ts : List Lexeme} {t : PatternAt written} → IsPrimary ts t → (r : ℕ) → r ≤ nesting_limit → Keeps ts r (IsSpelledPattern t)
   primary (grammar.annotated_primary n p e) r l = at e (so second (both (annotation n r) (bare_primary p r l)))
 
-  bare_primary : {ts : List Lexeme} {t : Pattern written} → IsBarePrimary ts t → (r : ℕ) → r ≤ nesting_limit → Keeps ts r (IsSpelledPattern t)
+  bare_primary : {ts : List Lexeme} {t : PatternAt written} → IsBarePrimary ts t → (r : ℕ) → r ≤ nesting_limit → Keeps ts r (IsSpelledPattern t)
   bare_primary (grammar.element {ts} {a} {b} {c} k p e) r l =
       at e (past_keyword (so (λ q. (nested_class r c l (first q), second q)) (both (class k r) (braced p r l))))
   bare_primary (grammar.attribute {ts} {a} {b} {c} k p e) r l =
@@ -281,18 +281,18 @@ mutual
       at e (past_keyword (so (λ q. subst IsSpelledPattern (sym t-is) q) (in_braces (λ m i. components cs m (less_room r m l i)))))
   bare_primary (grammar.in_parens p e) r l = at e (in_parentheses (λ m i. pattern p m (less_room r m l i)))
 
-  braced : {ts : List Lexeme} {t : Pattern written} → IsBraced ts t → (r : ℕ) → r ≤ nesting_limit → Keeps ts r (IsSpelledPattern t)
+  braced : {ts : List Lexeme} {t : PatternAt written} → IsBraced ts t → (r : ℕ) → r ≤ nesting_limit → Keeps ts r (IsSpelledPattern t)
   braced (grammar.in_braces p e) r l = at e (in_braces (λ m i. pattern p m (less_room r m l i)))
 
-  components : {w : Setting} {ts : List Lexeme} {cs : List (Component written)} → AreComponents w ts cs → (r : ℕ) → r ≤ nesting_limit
+  components : {w : Setting} {ts : List Lexeme} {cs : List (ComponentAt written)} → AreComponents w ts cs → (r : ℕ) → r ≤ nesting_limit
       → Keeps ts r (AreSpelledComponents (syntax.components_of cs))
   components (grammar.no_components e) r l = at e nothing
   components (grammar.and_component c cs e) r l = at e (both (component c r l) (components cs r l))
 
-  component : {w : Setting} {ts : List Lexeme} {c : Component written} → IsComponent w ts c → (r : ℕ) → r ≤ nesting_limit → Keeps ts r (IsSpelledComponent c)
+  component : {w : Setting} {ts : List Lexeme} {c : ComponentAt written} → IsComponent w ts c → (r : ℕ) → r ≤ nesting_limit → Keeps ts r (IsSpelledComponent c)
   component (grammar.annotated_component n c e) r l = at e (so second (both (annotation n r) (bare_component c r l)))
 
-  bare_component : {w : Setting} {ts : List Lexeme} {c : Component written} → IsBareComponent w ts c → (r : ℕ) → r ≤ nesting_limit
+  bare_component : {w : Setting} {ts : List Lexeme} {c : ComponentAt written} → IsBareComponent w ts c → (r : ℕ) → r ≤ nesting_limit
       → Keeps ts r (IsSpelledComponent c)
   bare_component (grammar.start {w} {ts} {a} {x} m p e) r l = at e (past_keyword (past_method x m (pattern p r l)))
   bare_component (grammar.define {w} {ts} {a} {x} m p e) r l = at e (past_identifier (past_method x m (pattern p r l)))
@@ -302,7 +302,7 @@ mutual
       at e (past_keyword (so (λ q. subst IsSpelledComponent (sym c-is) (first q, second (second q)))
       (both (literal v r) (both (inherit p r) (overrides o r l)))))
 
-  overrides : {ts : List Lexeme} {cs : List (Component written)} → MayOverride ts cs → (r : ℕ) → r ≤ nesting_limit
+  overrides : {ts : List Lexeme} {cs : List (ComponentAt written)} → MayOverride ts cs → (r : ℕ) → r ≤ nesting_limit
       → Keeps ts r (AreSpelledComponents (syntax.components_of cs))
   overrides (grammar.without_overrides e) r l = at e nothing
   overrides (grammar.with_overrides cs e) r l = at e (in_braces (λ m i. components cs m (less_room r m l i)))

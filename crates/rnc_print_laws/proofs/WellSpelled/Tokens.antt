@@ -5,7 +5,7 @@ use Rattle.std.proofs.lemmas.Str.{encode_ascii}
 use Rattle.rnc_text.proofs.Cursors.{bytes_append}
 use Rattle.rnc_model.specs.characters.Decoding.{numbers_of, bytes_of, IsDecoded}
 use Rattle.rnc_model.specs.tokens.Cut.{Token, tokens_at, HasTokens, lexeme_at, numbered, lexemes, prefix_in, local_in}
-use Rattle.rnc_model.specs.tokens.Tokens.{Piece, gap, token, characters_in, keyword_or_identifier, keyword_of, IsNcname, three, IsPiece}
+use Rattle.rnc_model.specs.tokens.Tokens.{Piece, gap, token, characters_in, keyword_or_identifier, keyword_of, IsNcname, three, IsGapOrToken}
 use Rattle.rnc_model.specs.tokens.Tokens as tokens
 use Rattle.rnc_model.specs.declared.character.Character.{Character}
 use Rattle.rnc_model.specs.declared.character.Character.TheVariants.{Ordinary}
@@ -39,7 +39,7 @@ word_spelled : (o : Option Keyword) (w : List ℕ) (n : ℕ) → IsName w → Is
 word_spelled None w n h = h
 word_spelled (Some k) w n h = h
 
-piece_spelled : {p : Piece} → IsPiece p → AreChars (characters_in p) → (n : ℕ) → IsSpelledPiece p n
+piece_spelled : {p : Piece} → IsGapOrToken p → AreChars (characters_in p) → (n : ℕ) → IsSpelledPiece p n
 piece_spelled (tokens.blank b) h n = tt
 piece_spelled (tokens.comment c e) h n = tt
 piece_spelled (tokens.word {kind} {all} i e) h n = subst (λ (k : TokenKind). IsWellSpelled (lexeme_at k (bytes_of all) n)) (sym e)

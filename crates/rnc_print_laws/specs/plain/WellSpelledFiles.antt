@@ -22,12 +22,12 @@ abbrev pub IsWellSpelledMention : tree.Mention applied → Type 0
 IsWellSpelledMention m = IsText m.href × IsTextNamespace m.inherit
 
 -- whatever namespace of Chars the file inherits, the class is printable
-abbrev pub IsWellSpelledClass : tree.NameClass applied → Type 0
+abbrev pub IsWellSpelledClass : tree.NameClassAt applied → Type 0
 IsWellSpelledClass c = (u : List ℕ) → IsText u → IsPrintableClass (class_in u c)
 
 -- everything in the pattern is well spelled, including the files that it mentions
 abbrev mutual
-  pub IsWellSpelledPattern : tree.Pattern applied → Type 0
+  pub IsWellSpelledPattern : tree.PatternAt applied → Type 0
   IsWellSpelledPattern (tree.element c p) = IsWellSpelledClass c × IsWellSpelledPattern p
   IsWellSpelledPattern (tree.attribute c p) = IsWellSpelledClass c × IsWellSpelledPattern p
   IsWellSpelledPattern (tree.list p) = IsWellSpelledPattern p
@@ -47,17 +47,17 @@ abbrev mutual
   IsWellSpelledPattern (tree.grammar cs) = AreWellSpelledComponents cs
   IsWellSpelledPattern (tree.joined k ps) = AreWellSpelledPatterns ps
 
-  pub AreWellSpelledPatterns : tree.Patterns applied → Type 0
+  pub AreWellSpelledPatterns : tree.PatternsAt applied → Type 0
   AreWellSpelledPatterns tree.no_patterns = Unit {0}
   AreWellSpelledPatterns (tree.pattern_and p ps) = IsWellSpelledPattern p × AreWellSpelledPatterns ps
 
-  pub IsWellSpelledComponent : tree.Component applied → Type 0
+  pub IsWellSpelledComponent : tree.ComponentAt applied → Type 0
   IsWellSpelledComponent (tree.start m p) = IsWellSpelledPattern p
   IsWellSpelledComponent (tree.define n m p) = IsName n × IsWellSpelledPattern p
   IsWellSpelledComponent (tree.div cs) = AreWellSpelledComponents cs
   IsWellSpelledComponent (tree.include m cs) = IsWellSpelledMention m × AreWellSpelledComponents cs
 
-  pub AreWellSpelledComponents : tree.Components applied → Type 0
+  pub AreWellSpelledComponents : tree.ComponentsAt applied → Type 0
   AreWellSpelledComponents tree.no_components = Unit {0}
   AreWellSpelledComponents (tree.component_and c cs) = IsWellSpelledComponent c × AreWellSpelledComponents cs
 

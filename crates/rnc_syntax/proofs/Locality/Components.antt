@@ -7,7 +7,7 @@ use Rattle.rng_model.specs.declared.method.Method.{Method}
 use Rattle.rng_model.specs.declared.method.Method.TheVariants as methods
 use Rattle.rnc_model.specs.tokens.Cut.{Lexeme, keyword, identifier, sign}
 use Rattle.rnc_model.specs.grammar.Syntax as syntax
-use Rattle.rnc_model.specs.grammar.Syntax.{written, Component}
+use Rattle.rnc_model.specs.grammar.Syntax.{written, ComponentAt}
 use Rattle.rnc_model.specs.grammar.Grammar.{Setting, content, override}
 use Rattle.rnc_syntax.specs.plain.Combinators.{Outcome, ◌>>=◌, follow}
 use Rattle.rnc_syntax.specs.plain.Productions.{annotation_at, mention_at, Inside, contents_with, class_with, pattern_with, method_at, overrides_with}
@@ -30,12 +30,12 @@ method_local (sign AndEqual ∷ ts) = cons_local method_at method_at _ _ (sign A
 method_local (t ∷ ts) = stuck_front method_at method_at t ts (λ us. refl) (λ us. refl)
 
 -- a start or a define, after its name
-abbrev behind_name : Inside → Option (List ℕ) → List Lexeme → Outcome (Component written)
+abbrev behind_name : Inside → Option (List ℕ) → List Lexeme → Outcome (ComponentAt written)
 behind_name inner n us = ◌>>=◌ {A = (Option (List ℕ) × Method) × List Lexeme} (method_at us >>= λ m. Ok ((n, m.0), m.1)) (λ x. pattern_with inner x.1
     >>= λ t. Ok (assigned x.0.0 x.0.1 t.0, t.1))
 
 -- an include, after its keyword
-abbrev behind_include : Inside → ℕ → List Lexeme → Outcome (Component written)
+abbrev behind_include : Inside → ℕ → List Lexeme → Outcome (ComponentAt written)
 behind_include inner number us = mention_at number us >>= λ m. overrides_with inner m.1 >>= λ cs. Ok (syntax.include m.0 (syntax.components_of cs.0), cs.1)
 
 module _ (inside deeper : Inside) (l : Locals inside deeper) (self : Locals deeper deeper) where

@@ -4,7 +4,7 @@ use Rattle.rnc_model.specs.declared.token.Keyword.TheVariants as keywords
 use Rattle.rnc_model.specs.declared.token.Sign.TheVariants.{Equal, BarEqual, AndEqual, OpenBracket}
 use Rattle.rnc_model.specs.tokens.Cut.{Lexeme, keyword, identifier, sign}
 use Rattle.rnc_model.specs.grammar.Syntax as syntax
-use Rattle.rnc_model.specs.grammar.Syntax.{written, Component, Uri, Body}
+use Rattle.rnc_model.specs.grammar.Syntax.{written, ComponentAt, Uri, Body}
 use Rattle.rnc_model.specs.grammar.Grammar.{content}
 use Rattle.rnc_syntax.specs.plain.Combinators.{Outcome, ◌>>=◌, follow, follow_keyword, after, after_keyword, word_at}
 use Rattle.rnc_syntax.specs.plain.Productions.{annotation_end, literal_at, parameter_at, Inside, bare_pattern_with, bare_component_with, components_with}
@@ -98,14 +98,14 @@ module _ (inside deeper : Inside) (l : Locals inside deeper) (self : Locals deep
   first_read inner us = bare_component_with inner content us >>= λ c. components_with inner content c.1
       >>= λ cs. Ok (syntax.grammar_body (syntax.components_of (c.0 ∷ cs.0)), cs.1)
 
-  abbrev others_read : Inside → Component written → List Lexeme → Outcome Body
+  abbrev others_read : Inside → ComponentAt written → List Lexeme → Outcome Body
   others_read inner c us = components_with inner content us >>= λ cs. Ok (syntax.grammar_body (syntax.components_of (c ∷ cs.0)), cs.1)
 
   grammar_local : IsLocal (grammar_read inside) (grammar_read deeper)
   grammar_local = made_local (components_with inside content) (components_with deeper content) (λ cs. syntax.grammar_body (syntax.components_of cs))
       (components_local inside deeper l self content)
 
-  others_local : (c : Component written) → IsLocal (others_read inside c) (others_read deeper c)
+  others_local : (c : ComponentAt written) → IsLocal (others_read inside c) (others_read deeper c)
   others_local c = made_local (components_with inside content) (components_with deeper content) (λ cs. syntax.grammar_body (syntax.components_of (c ∷ cs)))
       (components_local inside deeper l self content)
 

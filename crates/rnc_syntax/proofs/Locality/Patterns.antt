@@ -5,7 +5,7 @@ use Rattle.rnc_model.specs.declared.token.Sign.{Sign}
 use Rattle.rnc_model.specs.declared.token.Sign.TheVariants.{Comma, Bar, And, Question, Star, Plus, Minus}
 use Rattle.rnc_model.specs.tokens.Cut.{Lexeme, keyword, identifier, cname, sign}
 use Rattle.rnc_model.specs.grammar.Syntax as syntax
-use Rattle.rnc_model.specs.grammar.Syntax.{written, DatatypeName, Pattern}
+use Rattle.rnc_model.specs.grammar.Syntax.{written, DatatypeName, PatternAt}
 use Rattle.rnc_syntax.specs.plain.Combinators.{Outcome, ◌>>=◌, follow, either_way, many}
 use Rattle.rnc_syntax.specs.plain.Productions.{parameters_at, Inside, begins_segment, typed_at, other_at, atom_at, bare_primary_with, primary_with, repeated}
 use Rattle.rnc_syntax.specs.plain.Productions.{particle_with, separator_of, joined, rest_with, pattern_from, data_with, bare_pattern_with, pattern_with}
@@ -18,10 +18,10 @@ use Rattle.rnc_syntax.proofs.Locality.Primaries.{Locals, same_segment, typed_loc
 
 -- ---- particles
 
-abbrev repeated_read : Pattern written → List Lexeme → Outcome (Pattern written)
+abbrev repeated_read : PatternAt written → List Lexeme → Outcome (PatternAt written)
 repeated_read t us = Ok (repeated t us)
 
-repeated_local : (t : Pattern written) → IsLocal (repeated_read t) (repeated_read t)
+repeated_local : (t : PatternAt written) → IsLocal (repeated_read t) (repeated_read t)
 repeated_local t [] = end_local (repeated_read t) (repeated_read t) (λ us. Ok (t, us)) (λ us. Ok (t, us)) refl refl (ok_local t [])
 repeated_local t (sign Question ∷ ts) = cons_local (repeated_read t) (repeated_read t) _ _ (sign Question) ts (λ us. refl) (λ us. refl)
     (ok_local (syntax.optional t) ts)
@@ -58,10 +58,10 @@ module _ (inside deeper : Inside) (l : Locals inside deeper) (self : Locals deep
       many_local (follow s) refl (particle_with inside) (particle_with deeper) (follow_front (particle_with inside) (particle_with deeper) p s)
       (follow_front (particle_with deeper) (particle_with deeper) q s)
 
-  abbrev rest_read : Inside → Pattern written → List Lexeme → Outcome (Pattern written)
+  abbrev rest_read : Inside → PatternAt written → List Lexeme → Outcome (PatternAt written)
   rest_read inner t us = rest_with inner t (separator_of us) us
 
-  rest_by : (t : Pattern written) (ts : List Lexeme) (o : Option Sign) → separator_of ts ≡ o → LocalAt (rest_read inside t) (rest_read deeper t) ts
+  rest_by : (t : PatternAt written) (ts : List Lexeme) (o : Option Sign) → separator_of ts ≡ o → LocalAt (rest_read inside t) (rest_read deeper t) ts
   unfolding rest_with
   rest_by t ts None e = same_local (rest_read inside t) (rest_read deeper t) (λ us. Ok (t, us)) (λ us. Ok (t, us)) ts (rw e refl)
       (λ other h. rw (sym (test_heads separator_of same_separator ts other h) ∙ e) refl) (ok_local t ts)
@@ -71,7 +71,7 @@ module _ (inside deeper : Inside) (l : Locals inside deeper) (self : Locals deep
       same_local (rest_read inside t) (rest_read deeper t) _ _ ts (rw e refl) (λ other h. rw (sym (test_heads separator_of same_separator ts other h) ∙ e) refl)
       (all ts)
 
-  from_local : (t : Pattern written) → IsLocal (pattern_from inside t) (pattern_from deeper t)
+  from_local : (t : PatternAt written) → IsLocal (pattern_from inside t) (pattern_from deeper t)
   from_local t ts = bind_local (repeated_read t) (repeated_read t) (rest_read inside) (rest_read deeper) ts (repeated_local t ts)
       (λ x rest e. rest_by x rest (separator_of rest) refl)
 
@@ -83,7 +83,7 @@ module _ (inside deeper : Inside) (l : Locals inside deeper) (self : Locals deep
       (pattern_from deeper (syntax.data_of d ps)) ts (from_local (syntax.data_of d ps) ts)
 
   -- a pattern after the name of a datatype
-  abbrev after_type : Inside → DatatypeName written → List Lexeme → Outcome (Pattern written)
+  abbrev after_type : Inside → DatatypeName written → List Lexeme → Outcome (PatternAt written)
   after_type inner d us = if begins_segment us then (typed_at d us >>= λ t. pattern_from inner t.0 t.1) else
       (parameters_at us >>= λ ps. data_with inner d ps.0 ps.1)
 

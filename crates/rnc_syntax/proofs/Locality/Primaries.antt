@@ -6,7 +6,7 @@ use Rattle.rnc_syntax.specs.declared.atoms.Opening.{Opening}
 use Rattle.rnc_syntax.specs.declared.atoms.Opening.TheVariants as openings
 use Rattle.rnc_model.specs.tokens.Cut.{Lexeme, keyword, identifier, cname, segment, sign}
 use Rattle.rnc_model.specs.grammar.Syntax as syntax
-use Rattle.rnc_model.specs.grammar.Syntax.{written, NameClass, DatatypeName, Pattern}
+use Rattle.rnc_model.specs.grammar.Syntax.{written, NameClassAt, DatatypeName, PatternAt}
 use Rattle.rnc_model.specs.grammar.Grammar.{Setting, content}
 use Rattle.rnc_syntax.specs.plain.Combinators.{Outcome, ◌>>=◌, after, identifier_at, either_way}
 use Rattle.rnc_syntax.specs.plain.Productions.{literal_at, parameters_at, in_braces_at, mention_at, class_with, Inside, braced_with, contents_with}
@@ -56,7 +56,7 @@ lone_part (keyword keywords.NotAllowed s) = opens (λ us. (syntax.not_allowed, u
 lone_part (identifier n) = opens (λ us. (syntax.ref n, us)) (λ us. refl) (ok_local (syntax.ref n))
 lone_part t = closes (λ us. refl)
 
-abbrev typed_after : DatatypeName written × List Lexeme → Outcome (Pattern written)
+abbrev typed_after : DatatypeName written × List Lexeme → Outcome (PatternAt written)
 typed_after d = typed_at d.0 d.1
 
 type_part : (t : Lexeme) → FrontAt type_front typed_after typed_after t
@@ -88,7 +88,7 @@ module _ (inside deeper : Inside) (l : Locals inside deeper) (self : Locals deep
       (after_local OpenBrace ts)
       (λ x rest e. in_braces_local (inside.components w) (deeper.components w) (l.components w) rest)
 
-  named_local : (make : NameClass written → Pattern written → Pattern written) → IsLocal (named_with inside make) (named_with deeper make)
+  named_local : (make : NameClassAt written → PatternAt written → PatternAt written) → IsLocal (named_with inside make) (named_with deeper make)
   unfolding named_with
   named_local make ts =
       bind_local (class_with inside.class) (class_with deeper.class) (λ c us. braced_with inside us

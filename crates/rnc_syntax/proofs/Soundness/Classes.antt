@@ -5,7 +5,7 @@ use Rattle.std.proofs.lemmas.Option.{same_Some}
 use Rattle.rnc_model.specs.declared.token.Sign.TheVariants.{Bar, Star, Minus, OpenParenthesis, CloseParenthesis}
 use Rattle.rnc_model.specs.tokens.Cut.{Lexeme, keyword, identifier, cname, ns_name, segment, sign}
 use Rattle.rnc_model.specs.grammar.Syntax as syntax
-use Rattle.rnc_model.specs.grammar.Syntax.{written, NameClass}
+use Rattle.rnc_model.specs.grammar.Syntax.{written, NameClassAt}
 use Rattle.rnc_model.specs.grammar.NameClasses as grammar
 use Rattle.rnc_model.specs.grammar.NameClasses.{MayBeAnnotation, IsClass, AreMoreClasses, IsBasic, IsBareBasic}
 use Rattle.rnc_syntax.specs.plain.Combinators.{Outcome, ◌>>=◌, follow, either_way, many}
@@ -15,7 +15,7 @@ use Rattle.rnc_syntax.proofs.Soundness.{bind_ok, front_some, ok_is, follow_is, T
 use Rattle.rnc_syntax.proofs.Soundness.{many_sound, some_is_read, preceded_sound, nothing_left}
 use Rattle.rnc_syntax.proofs.Soundness.Annotations.{SoundBehind, annotated_sound, bare_sound}
 
-bare_basic_sound : (class : List Lexeme → Outcome (NameClass written)) → Sound class IsClass → Sound (bare_basic_with class) IsBareBasic
+bare_basic_sound : (class : List Lexeme → Outcome (NameClassAt written)) → Sound class IsClass → Sound (bare_basic_with class) IsBareBasic
 unfolding bare_basic_with class_in_parens
 bare_basic_sound class sound [] x e = absurd cc
 bare_basic_sound class sound (identifier w ∷ ts) x e = subst (TakesFront IsBareBasic (identifier w ∷ ts)) (ok_is (syntax.name_is (syntax.unprefixed w), ts) x e)
@@ -38,28 +38,28 @@ bare_basic_sound class sound (sign OpenParenthesis ∷ ts) x e =
     }
 bare_basic_sound class sound (sign _ ∷ ts) x e = absurd cc
 
-pub basic_is : (n ts : List Lexeme) (c : NameClass written) → MayBeAnnotation n → IsBareBasic ts c → IsBasic (n ++ ts) c
+pub basic_is : (n ts : List Lexeme) (c : NameClassAt written) → MayBeAnnotation n → IsBareBasic ts c → IsBasic (n ++ ts) c
 basic_is n ts c may is = grammar.annotated_basic may is refl
 
-pub bare_basic_behind : (class : List Lexeme → Outcome (NameClass written)) → Sound class IsClass → SoundBehind (bare_basic_with class) IsBasic
+pub bare_basic_behind : (class : List Lexeme → Outcome (NameClassAt written)) → Sound class IsClass → SoundBehind (bare_basic_with class) IsBasic
 bare_basic_behind class sound = bare_sound IsBasic (bare_basic_with class) IsBareBasic (bare_basic_sound class sound) basic_is
 
-pub basic_sound : (class : List Lexeme → Outcome (NameClass written)) → Sound class IsClass → Sound (basic_with class) IsBasic
+pub basic_sound : (class : List Lexeme → Outcome (NameClassAt written)) → Sound class IsClass → Sound (basic_with class) IsBasic
 unfolding basic_with
 basic_sound class sound = annotated_sound IsBasic (bare_basic_with class) (bare_basic_behind class sound)
 
 last_parts : (ts a b r : List Lexeme) → ts ≡ a ++ b → a ≡ sign Bar ∷ r → b ≡ [] → ts ≡ sign Bar ∷ r
 last_parts ts a b r e f g = e ∙ ap (λ (b : List Lexeme). a ++ b) g ∙ append-nil a ∙ f
 
-pub more_classes_are : {ts : List Lexeme} {cs : List (NameClass written)} → Each (Preceded IsBasic Bar) ts cs
-    → (y : NameClass written) (ys : List (NameClass written)) → y ∷ ys ≡ cs → AreMoreClasses ts cs
+pub more_classes_are : {ts : List Lexeme} {cs : List (NameClassAt written)} → Each (Preceded IsBasic Bar) ts cs
+    → (y : NameClassAt written) (ys : List (NameClassAt written)) → y ∷ ys ≡ cs → AreMoreClasses ts cs
 more_classes_are (no_items e) y ys ne = absurd cc
 more_classes_are {ts} (and_item {xs = []} {a = a} {b = b} p q parts) y ys ne = grammar.last_class p.is (last_parts ts a b p.rest parts p.parts (nothing_left q))
 more_classes_are {ts} (and_item {xs = z ∷ zs} {a = a} {b = b} p q parts) y ys ne = grammar.more_classes p.is (more_classes_are q z zs refl)
     (parts ∙ ap (λ (a : List Lexeme). a ++ b) p.parts)
 
-choice_reads : (ts rest front : List Lexeme) (c : NameClass written) (others : List (NameClass written) × List Lexeme) (y : NameClass written)
-    (ys : List (NameClass written)) → IsBasic front c → ts ≡ front ++ rest → y ∷ ys ≡ others.0 → TakesFront (Each (Preceded IsBasic Bar)) rest others
+choice_reads : (ts rest front : List Lexeme) (c : NameClassAt written) (others : List (NameClassAt written) × List Lexeme) (y : NameClassAt written)
+    (ys : List (NameClassAt written)) → IsBasic front c → ts ≡ front ++ rest → y ∷ ys ≡ others.0 → TakesFront (Each (Preceded IsBasic Bar)) rest others
     → TakesFront IsClass ts (syntax.choice_of (c ∷ others.0), others.1)
 choice_reads ts rest front c others y ys one parts ne q = record {
   front = front ++ q.front;
@@ -94,7 +94,7 @@ except_is ts y e =
     (wide_is ts w.0 w.1 ∙ wide_minus w.0.0 w.0.1 m.0 (follow_is Minus w.0.1 m.0 m.1))
 
 -- after an annotation
-excepted_reads : (n : List Lexeme) (o : Option (List ℕ)) (ts rest : List Lexeme) (c : NameClass written × List Lexeme) → MayBeAnnotation n
+excepted_reads : (n : List Lexeme) (o : Option (List ℕ)) (ts rest : List Lexeme) (c : NameClassAt written × List Lexeme) → MayBeAnnotation n
     → ts ≡ except_tokens o rest → TakesFront IsBasic rest c → TakesFront IsClass (n ++ ts) (excepted o c.0, c.1)
 excepted_reads n None ts rest c may f p = record {
   front = n ++ sign Star ∷ sign Minus ∷ p.front;
@@ -109,8 +109,8 @@ excepted_reads n (Some q) ts rest c may f p = record {
       ∙ sym (append_assoc n (ns_name q ∷ sign Minus ∷ p.front) c.1);
 }
 
-module _ (basic : List Lexeme → Outcome (NameClass written)) (sound : Sound basic IsBasic) where
-  choice_step : (ts rest front : List Lexeme) (c : NameClass written) (x : NameClass written × List Lexeme) (o : Option (List Lexeme)) → IsBasic front c
+module _ (basic : List Lexeme → Outcome (NameClassAt written)) (sound : Sound basic IsBasic) where
+  choice_step : (ts rest front : List Lexeme) (c : NameClassAt written) (x : NameClassAt written × List Lexeme) (o : Option (List Lexeme)) → IsBasic front c
       → ts ≡ front ++ rest → follow Bar rest ≡ o
       → either_way o (Ok (c, rest)) (λ us. many (follow Bar) basic rest >>= λ others. Ok (syntax.choice_of (c ∷ others.0), others.1)) ≡ Ok x
       → TakesFront IsClass ts x
@@ -123,13 +123,13 @@ module _ (basic : List Lexeme → Outcome (NameClass written)) (sound : Sound ba
       (choice_reads ts rest front c a.0 some.0 some.1 one parts some.2
       (many_sound (Preceded IsBasic Bar) (follow Bar) basic (preceded_sound IsBasic Bar basic sound) rest a.0 a.1))
 
-  choice_sound : (ts : List Lexeme) (c : NameClass written × List Lexeme) (x : NameClass written × List Lexeme) → TakesFront IsBasic ts c
+  choice_sound : (ts : List Lexeme) (c : NameClassAt written × List Lexeme) (x : NameClassAt written × List Lexeme) → TakesFront IsBasic ts c
       → choice_with basic c.0 c.1 ≡ Ok x → TakesFront IsClass ts x
   unfolding choice_with
   choice_sound ts c x p e = choice_step ts c.1 p.front c.0 x (follow Bar c.1) p.is p.parts refl e
 
-module _ (class : List Lexeme → Outcome (NameClass written)) (sound : Sound class IsClass) where
-  class_step : (n ts : List Lexeme) (x : NameClass written × List Lexeme) (o : Option (Option (List ℕ) × List Lexeme)) → MayBeAnnotation n → except_front ts ≡ o
+module _ (class : List Lexeme → Outcome (NameClassAt written)) (sound : Sound class IsClass) where
+  class_step : (n ts : List Lexeme) (x : NameClassAt written × List Lexeme) (o : Option (Option (List ℕ) × List Lexeme)) → MayBeAnnotation n → except_front ts ≡ o
       → either_way o (bare_basic_with class ts >>= λ c. choice_with (basic_with class) c.0 c.1) (λ x. basic_with class x.1 >>= λ c. Ok (
         excepted x.0 c.0,
         c.1,

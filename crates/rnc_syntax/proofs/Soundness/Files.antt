@@ -7,7 +7,7 @@ use Rattle.rnc_model.specs.declared.token.Keyword.TheVariants as keywords
 use Rattle.rnc_model.specs.declared.token.Sign.TheVariants.{Equal, OpenBracket}
 use Rattle.rnc_model.specs.tokens.Cut.{Lexeme, Spelling, keyword, sign}
 use Rattle.rnc_model.specs.grammar.Syntax as syntax
-use Rattle.rnc_model.specs.grammar.Syntax.{written, Component, Uri, Declaration, Body, File}
+use Rattle.rnc_model.specs.grammar.Syntax.{written, ComponentAt, Uri, Declaration, Body, File}
 use Rattle.rnc_model.specs.grammar.Grammar as grammar
 use Rattle.rnc_model.specs.grammar.NameClasses as name_classes
 use Rattle.rnc_model.specs.grammar.Grammar.{content, AreComponents, IsComponent, IsUri, IsDeclaration, AreDeclarations, IsBody, IsFile}
@@ -106,7 +106,7 @@ module _ (inside : Inside) (sound : InsideSound inside) where
   bare_body_sound ts x e =
       elim (chosen (is_grammar_body true ts) (components_with inside content ts >>= λ cs. Ok (syntax.grammar_body (syntax.components_of cs.0), cs.1))
       (pattern_body_with inside ts) (Ok x) e) [
-        | inl h ↦ mapped_sound (AreComponents content) IsBody (λ (cs : List (Component written)). syntax.grammar_body (syntax.components_of cs))
+        | inl h ↦ mapped_sound (AreComponents content) IsBody (λ (cs : List (ComponentAt written)). syntax.grammar_body (syntax.components_of cs))
             (components_with inside content) (components_sound inside sound content) (λ ts a p. grammar.grammar_body p refl) ts x h.1
         | inr h ↦ pattern_body_behind [] (name_classes.without_annotation refl) ts x h.1
       ]

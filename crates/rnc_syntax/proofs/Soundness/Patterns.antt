@@ -12,7 +12,7 @@ use Rattle.rng_model.specs.declared.method.Method.{Method}
 use Rattle.rng_model.specs.declared.method.Method.TheVariants as methods
 use Rattle.rnc_model.specs.tokens.Cut.{Lexeme, Spelling, keyword, identifier, cname, segment, sign}
 use Rattle.rnc_model.specs.grammar.Syntax as syntax
-use Rattle.rnc_model.specs.grammar.Syntax.{written, NameClass, DatatypeName, Mention, Pattern, Component}
+use Rattle.rnc_model.specs.grammar.Syntax.{written, NameClassAt, DatatypeName, Mention, PatternAt, ComponentAt}
 use Rattle.rnc_model.specs.grammar.Grammar as grammar
 use Rattle.rnc_model.specs.grammar.Grammar.{Setting, content, override, IsPattern}
 use Rattle.rnc_model.specs.grammar.NameClasses.{type_of, method_of, connector_of, IsLiteral, MayBeParameters, IsClass, MayBeAnnotation}
@@ -85,7 +85,7 @@ data_front_is ts d e =
     let f = front_some (type_front ts) (λ x. if begins_segment x.1 then None else Some x) d e in
     type_front_is ts d (f.1 ∙ ap (λ (d : DatatypeName written × List Lexeme). Some d) (no_segment_front f.0 d f.2))
 
-typed_sound : (d : DatatypeName written) (t : Lexeme) (ts : List Lexeme) (x : Pattern written × List Lexeme) → type_of t ≡ Some d → typed_at d ts ≡ Ok x
+typed_sound : (d : DatatypeName written) (t : Lexeme) (ts : List Lexeme) (x : PatternAt written × List Lexeme) → type_of t ≡ Some d → typed_at d ts ≡ Ok x
     → TakesFront IsBarePrimary (t ∷ ts) x
 unfolding typed_at
 typed_sound d t ts x is e =
@@ -98,17 +98,17 @@ typed_sound d t ts x is e =
     ]
 
 pub separator_is : (s : Sign) (ts : List Lexeme) → separator_of ts ≡ Some s → (us : List Lexeme) × (follow s ts ≡ Some us) × (k : Connector)
-    × (connector_of s ≡ Some k) × ((all : List (Pattern written)) → joined s all ≡ syntax.members k all)
+    × (connector_of s ≡ Some k) × ((all : List (PatternAt written)) → joined s all ≡ syntax.members k all)
 separator_is s (sign Comma ∷ ts) e = subst (λ (s : Sign). (us : List Lexeme) × (follow s (sign Comma ∷ ts) ≡ Some us) × (k : Connector)
     × (connector_of s ≡ Some k)
-    × ((all : List (Pattern written)) → joined s all ≡ syntax.members k all)) (same_Some Comma s e) (ts, refl, group, refl, λ all. refl)
+    × ((all : List (PatternAt written)) → joined s all ≡ syntax.members k all)) (same_Some Comma s e) (ts, refl, group, refl, λ all. refl)
 separator_is s (sign And ∷ ts) e = subst (λ (s : Sign). (us : List Lexeme) × (follow s (sign And ∷ ts) ≡ Some us) × (k : Connector) × (connector_of s ≡ Some k)
-    × ((all : List (Pattern written)) → joined s all ≡ syntax.members k all)) (same_Some And s e) (ts, refl, interleave, refl, λ all. refl)
+    × ((all : List (PatternAt written)) → joined s all ≡ syntax.members k all)) (same_Some And s e) (ts, refl, interleave, refl, λ all. refl)
 separator_is s (sign Bar ∷ ts) e = subst (λ (s : Sign). (us : List Lexeme) × (follow s (sign Bar ∷ ts) ≡ Some us) × (k : Connector) × (connector_of s ≡ Some k)
-    × ((all : List (Pattern written)) → joined s all ≡ syntax.members k all)) (same_Some Bar s e) (ts, refl, choice, refl, λ all. refl)
+    × ((all : List (PatternAt written)) → joined s all ≡ syntax.members k all)) (same_Some Bar s e) (ts, refl, choice, refl, λ all. refl)
 separator_is s _ e = absurd cc
 
-repeated_by : (ts us rest front : List Lexeme) (r : Sign) (t u : Pattern written) → ((a : List Lexeme) → IsPrimary a t → IsParticle (a ++ sign r ∷ []) u)
+repeated_by : (ts us rest front : List Lexeme) (r : Sign) (t u : PatternAt written) → ((a : List Lexeme) → IsPrimary a t → IsParticle (a ++ sign r ∷ []) u)
     → IsPrimary front t → ts ≡ front ++ us → us ≡ sign r ∷ rest → TakesFront IsParticle ts (u, rest)
 repeated_by ts us rest front r t u makes one parts is = record {
   front = front ++ sign r ∷ [];
@@ -117,7 +117,7 @@ repeated_by ts us rest front r t u makes one parts is = record {
 }
 
 -- a primary with the sign of repetition after it
-pub repeated_reads : (ts rest front : List Lexeme) (t : Pattern written) → IsPrimary front t → ts ≡ front ++ rest → TakesFront IsParticle ts (repeated t rest)
+pub repeated_reads : (ts rest front : List Lexeme) (t : PatternAt written) → IsPrimary front t → ts ≡ front ++ rest → TakesFront IsParticle ts (repeated t rest)
 repeated_reads ts (sign Question ∷ us) front t one parts = repeated_by ts (sign Question ∷ us) us front Question t (syntax.optional t)
     (λ a p. grammar.optional p refl) one parts refl
 repeated_reads ts (sign Star ∷ us) front t one parts = repeated_by ts (sign Star ∷ us) us front Star t (syntax.zero_or_more t)
@@ -129,16 +129,16 @@ repeated_reads ts _ front t one parts = record { front = front; is = grammar.onc
 last_parts : (s : Sign) (ts a b r : List Lexeme) → ts ≡ a ++ b → a ≡ sign s ∷ r → b ≡ [] → ts ≡ sign s ∷ r
 last_parts s ts a b r e f g = e ∙ ap (λ (b : List Lexeme). a ++ b) g ∙ append-nil a ∙ f
 
-pub more_are : {s : Sign} {ts : List Lexeme} {us : List (Pattern written)} → Each (Preceded IsParticle s) ts us
-    → (y : Pattern written) (ys : List (Pattern written)) → y ∷ ys ≡ us → AreMore s ts us
+pub more_are : {s : Sign} {ts : List Lexeme} {us : List (PatternAt written)} → Each (Preceded IsParticle s) ts us
+    → (y : PatternAt written) (ys : List (PatternAt written)) → y ∷ ys ≡ us → AreMore s ts us
 more_are (no_items e) y ys ne = absurd cc
 more_are {s} {ts} (and_item {xs = []} {a = a} {b = b} p q parts) y ys ne =
     grammar.last_particle p.is (last_parts s ts a b p.rest parts p.parts (nothing_left q))
 more_are {s} {ts} (and_item {xs = z ∷ zs} {a = a} {b = b} p q parts) y ys ne = grammar.more_particles p.is (more_are q z zs refl)
     (parts ∙ ap (λ (a : List Lexeme). a ++ b) p.parts)
 
-joined_reads : (ts rest front : List Lexeme) (s : Sign) (k : Connector) (t u : Pattern written) (others : List (Pattern written) × List Lexeme)
-    (y : Pattern written) (ys : List (Pattern written)) → connector_of s ≡ Some k → IsParticle front t → ts ≡ front ++ rest → y ∷ ys ≡ others.0
+joined_reads : (ts rest front : List Lexeme) (s : Sign) (k : Connector) (t u : PatternAt written) (others : List (PatternAt written) × List Lexeme)
+    (y : PatternAt written) (ys : List (PatternAt written)) → connector_of s ≡ Some k → IsParticle front t → ts ≡ front ++ rest → y ∷ ys ≡ others.0
     → u ≡ syntax.members k (t ∷ others.0) → TakesFront (Each (Preceded IsParticle s)) rest others → TakesFront IsPattern ts (u, others.1)
 joined_reads ts rest front s k t u others y ys connects one parts ne tree q = record {
   front = front ++ q.front;
@@ -146,7 +146,7 @@ joined_reads ts rest front s k t u others y ys connects one parts ne tree q = re
   parts = parts ∙ ap (λ (r : List Lexeme). front ++ r) q.parts ∙ sym (append_assoc front q.front others.1);
 }
 
-pub components_are : (w : Setting) {ts : List Lexeme} {cs : List (Component written)} → Each (IsComponent w) ts cs → AreComponents w ts cs
+pub components_are : (w : Setting) {ts : List Lexeme} {cs : List (ComponentAt written)} → Each (IsComponent w) ts cs → AreComponents w ts cs
 components_are w (no_items e) = grammar.no_components e
 components_are w (and_item p q parts) = grammar.and_component p (components_are w q) parts
 
@@ -158,7 +158,7 @@ component_front_is w ts us e =
     ]
 
 -- a method and a pattern, after the name or `start`
-abbrev pub assignment_with : Inside → Option (List ℕ) → List Lexeme → Outcome (Component written)
+abbrev pub assignment_with : Inside → Option (List ℕ) → List Lexeme → Outcome (ComponentAt written)
 assignment_with inside o ts = ◌>>=◌ {A = (Option (List ℕ) × Method) × List Lexeme} (method_at ts >>= λ m. Ok ((o, m.0), m.1)) (λ x. pattern_with inside x.1
     >>= λ t. Ok (assigned x.0.0 x.0.1 t.0, t.1))
 
@@ -169,7 +169,7 @@ assignment_is inside o ts = sym (bind_bind {B = (Option (List ℕ) × Method) ×
     >>= λ t. Ok (assigned x.0.0 x.0.1 t.0, t.1)))
 
 -- a mention, and the components that override what it mentions
-pub include_is : (s : Spelling) (first second : List Lexeme) (m : Mention written) (cs : List (Component written)) → IsMention s.number first m
+pub include_is : (s : Spelling) (first second : List Lexeme) (m : Mention written) (cs : List (ComponentAt written)) → IsMention s.number first m
     → MayOverride second cs → IsBareComponent content (keyword keywords.Include s ∷ (first ++ second)) (syntax.include m (syntax.components_of cs))
 include_is s first second m cs p q =
     grammar.include refl p.literal p.inherits q (ap (λ (r : List Lexeme). keyword keywords.Include s ∷ r) (ap (λ (r : List Lexeme). r ++ second) p.parts
@@ -177,20 +177,20 @@ include_is s first second m cs p q =
     (ap (λ (m : Mention written). syntax.include m (syntax.components_of cs)) p.standing)
 
 -- a method and a pattern, after `start`
-pub start_is : (w : Setting) (s : Spelling) (first second : List Lexeme) (m : Method) (t : Pattern written) → IsMethod first m → IsPattern second t
+pub start_is : (w : Setting) (s : Spelling) (first second : List Lexeme) (m : Method) (t : PatternAt written) → IsMethod first m → IsPattern second t
     → IsBareComponent w (keyword keywords.Start s ∷ (first ++ second)) (syntax.start m t)
 start_is w s first second m t p q = grammar.start p.method q (ap (λ (r : List Lexeme). keyword keywords.Start s ∷ (r ++ second)) p.parts)
 
 -- a method and a pattern, after a name
-pub define_is : (w : Setting) (n : List ℕ) (first second : List Lexeme) (m : Method) (t : Pattern written) → IsMethod first m → IsPattern second t
+pub define_is : (w : Setting) (n : List ℕ) (first second : List Lexeme) (m : Method) (t : PatternAt written) → IsMethod first m → IsPattern second t
     → IsBareComponent w (identifier n ∷ (first ++ second)) (syntax.define n m t)
 define_is w n first second m t p q = grammar.define p.method q (ap (λ (r : List Lexeme). identifier n ∷ (r ++ second)) p.parts)
 
 -- what follows an annotation is, with the annotation, the whole
-pub primary_is : (n ts : List Lexeme) (t : Pattern written) → MayBeAnnotation n → IsBarePrimary ts t → IsPrimary (n ++ ts) t
+pub primary_is : (n ts : List Lexeme) (t : PatternAt written) → MayBeAnnotation n → IsBarePrimary ts t → IsPrimary (n ++ ts) t
 primary_is n ts t may is = grammar.annotated_primary may is refl
 
-pub component_is : (w : Setting) (n ts : List Lexeme) (c : Component written) → MayBeAnnotation n → IsBareComponent w ts c → IsComponent w (n ++ ts) c
+pub component_is : (w : Setting) (n ts : List Lexeme) (c : ComponentAt written) → MayBeAnnotation n → IsBareComponent w ts c → IsComponent w (n ++ ts) c
 component_is w n ts c may is = grammar.annotated_component may is refl
 
 module _ (inside : Inside) (sound : InsideSound inside) where
@@ -210,10 +210,10 @@ module _ (inside : Inside) (sound : InsideSound inside) where
       record { front = p.front; is = bracketed (AreComponents w) OpenBrace CloseBrace p.front x.0 p.is; parts = p.parts }
 
   -- a name class and a pattern in braces, after a token
-  named_sound : (make : NameClass written → Pattern written → Pattern written) (t : Lexeme)
-      → ((first second : List Lexeme) (c : NameClass written) (u : Pattern written) → IsClass first c
+  named_sound : (make : NameClassAt written → PatternAt written → PatternAt written) (t : Lexeme)
+      → ((first second : List Lexeme) (c : NameClassAt written) (u : PatternAt written) → IsClass first c
       → IsBraced second u → IsBarePrimary (t ∷ (first ++ second)) (make c u))
-      → (ts : List Lexeme) (x : Pattern written × List Lexeme) → named_with inside make ts ≡ Ok x → TakesFront IsBarePrimary (t ∷ ts) x
+      → (ts : List Lexeme) (x : PatternAt written × List Lexeme) → named_with inside make ts ≡ Ok x → TakesFront IsBarePrimary (t ∷ ts) x
   unfolding named_with
   named_sound make t makes ts x e =
       behind IsBarePrimary t ts x
@@ -256,7 +256,7 @@ module _ (inside : Inside) (sound : InsideSound inside) where
       x e)
   bare_primary_sound (keyword keywords.Grammar s ∷ ts) x e =
       behind IsBarePrimary (keyword keywords.Grammar s) ts x (mapped_sound (Bracketed (AreComponents content) OpenBrace CloseBrace)
-      (Behind (keyword keywords.Grammar s) IsBarePrimary) (λ (cs : List (Component written)). syntax.grammar (syntax.components_of cs))
+      (Behind (keyword keywords.Grammar s) IsBarePrimary) (λ (cs : List (ComponentAt written)). syntax.grammar (syntax.components_of cs))
       (contents_with inside content)
       (contents_sound content)
       (λ ts a p. grammar.grammar p.is (ap (λ (ts : List Lexeme). keyword keywords.Grammar s ∷ ts) p.parts) refl) ts x e)
@@ -288,7 +288,7 @@ module _ (inside : Inside) (sound : InsideSound inside) where
       let p = primary_sound ts a.0 a.1 in
       subst (TakesFront IsParticle ts) (ok_is (repeated a.0.0 a.0.1) x a.2) (repeated_reads ts a.0.1 p.front a.0.0 p.is p.parts)
 
-  rest_sound : (ts : List Lexeme) (t x : Pattern written × List Lexeme) (o : Option Sign) → TakesFront IsParticle ts t → separator_of t.1 ≡ o
+  rest_sound : (ts : List Lexeme) (t x : PatternAt written × List Lexeme) (o : Option Sign) → TakesFront IsParticle ts t → separator_of t.1 ≡ o
       → rest_with inside t.0 o t.1 ≡ Ok x → TakesFront IsPattern ts x
   unfolding rest_with
   rest_sound ts t x None p is e = subst (TakesFront IsPattern ts) (ok_is t x e) (record { front = p.front; is = grammar.one_particle p.is; parts = p.parts })
@@ -300,13 +300,13 @@ module _ (inside : Inside) (sound : InsideSound inside) where
       (joined_reads ts t.1 p.front s o.2 t.0 (joined s (t.0 ∷ a.0.0)) a.0 some.0 some.1 o.3 p.is p.parts some.2 (o.4 (t.0 ∷ a.0.0))
       (many_sound (Preceded IsParticle s) (follow s) (particle_with inside) (preceded_sound IsParticle s (particle_with inside) particle_sound) t.1 a.0 a.1))
 
-  pattern_from_sound : (ts : List Lexeme) (t x : Pattern written × List Lexeme) → TakesFront IsPrimary ts t → pattern_from inside t.0 t.1 ≡ Ok x
+  pattern_from_sound : (ts : List Lexeme) (t x : PatternAt written × List Lexeme) → TakesFront IsPrimary ts t → pattern_from inside t.0 t.1 ≡ Ok x
       → TakesFront IsPattern ts x
   pattern_from_sound ts t x p e = rest_sound ts (repeated t.0 t.1) x (separator_of (repeated t.0 t.1).1) (repeated_reads ts t.1 p.front t.0 p.is p.parts) refl e
 
   -- after an annotation
   data_reads : (n : List Lexeme) (t : Lexeme) (d : DatatypeName written) (ts us vs front : List Lexeme) (ps : List (List ℕ × List ℕ))
-      (x : Pattern written × List Lexeme)
+      (x : PatternAt written × List Lexeme)
       → MayBeAnnotation n → type_of t ≡ Some d → MayBeParameters front ps → ts ≡ front ++ us → us ≡ sign Minus ∷ vs → TakesFront IsPrimary vs x
       → TakesFront IsPattern (n ++ t ∷ ts) (syntax.data_except d ps x.0, x.1)
   data_reads n t d ts us vs front ps x may is params parts minus p =
@@ -329,7 +329,7 @@ module _ (inside : Inside) (sound : InsideSound inside) where
       })
 
   data_step : (n : List Lexeme) (t : Lexeme) (d : DatatypeName written) (ts : List Lexeme) (ps : List (List ℕ × List ℕ) × List Lexeme)
-      (x : Pattern written × List Lexeme)
+      (x : PatternAt written × List Lexeme)
       (o : Option (List Lexeme)) → MayBeAnnotation n → type_of t ≡ Some d → TakesFront MayBeParameters ts ps → follow Minus ps.1 ≡ o
       → either_way o (pattern_from inside (syntax.data_of d ps.0) ps.1) (λ us. primary_with inside us >>= λ t. Ok (syntax.data_except d ps.0 t.0, t.1)) ≡ Ok x
       → TakesFront IsPattern (n ++ t ∷ ts) x
@@ -340,12 +340,12 @@ module _ (inside : Inside) (sound : InsideSound inside) where
       (data_reads n t d ts ps.1 us p.front ps.0 a.0 may is p.is p.parts (follow_is Minus ps.1 us f) (primary_sound us a.0 a.1))
 
   data_sound : (n : List Lexeme) (t : Lexeme) (d : DatatypeName written) (ts : List Lexeme) (ps : List (List ℕ × List ℕ) × List Lexeme)
-      (x : Pattern written × List Lexeme) → MayBeAnnotation n → type_of t ≡ Some d → TakesFront MayBeParameters ts ps → data_with inside d ps.0 ps.1 ≡ Ok x
+      (x : PatternAt written × List Lexeme) → MayBeAnnotation n → type_of t ≡ Some d → TakesFront MayBeParameters ts ps → data_with inside d ps.0 ps.1 ≡ Ok x
       → TakesFront IsPattern (n ++ t ∷ ts) x
   unfolding data_with
   data_sound n t d ts ps x may is p e = data_step n t d ts ps x (follow Minus ps.1) may is p refl e
 
-  pattern_step : (n ts : List Lexeme) (x : Pattern written × List Lexeme) (o : Option (DatatypeName written × List Lexeme)) → MayBeAnnotation n
+  pattern_step : (n ts : List Lexeme) (x : PatternAt written × List Lexeme) (o : Option (DatatypeName written × List Lexeme)) → MayBeAnnotation n
       → data_front ts ≡ o
       → either_way o (bare_primary_with inside ts >>= λ t. pattern_from inside t.0 t.1) (λ d. parameters_at d.1 >>= λ ps. data_with inside d.0 ps.0 ps.1) ≡ Ok x
       → TakesFront IsPattern (n ++ ts) x
@@ -367,15 +367,15 @@ module _ (inside : Inside) (sound : InsideSound inside) where
   pattern_sound = annotated_sound IsPattern (bare_pattern_with inside) bare_pattern_behind
 
   -- a method and a pattern, after the name or `start`
-  assigned_sound : (w : Setting) (o : Option (List ℕ)) (t : Lexeme) → ((first second : List Lexeme) (m : Method) (u : Pattern written) → IsMethod first m
+  assigned_sound : (w : Setting) (o : Option (List ℕ)) (t : Lexeme) → ((first second : List Lexeme) (m : Method) (u : PatternAt written) → IsMethod first m
       → IsPattern second u → IsBareComponent w (t ∷ (first ++ second)) (assigned o m u))
-      → (ts : List Lexeme) (x : Component written × List Lexeme) → assignment_with inside o ts ≡ Ok x → TakesFront (IsBareComponent w) (t ∷ ts) x
+      → (ts : List Lexeme) (x : ComponentAt written × List Lexeme) → assignment_with inside o ts ≡ Ok x → TakesFront (IsBareComponent w) (t ∷ ts) x
   assigned_sound w o t makes ts x e =
       behind (IsBareComponent w) t ts x
       (both_sound IsMethod IsPattern (Behind t (IsBareComponent w)) (assigned o) method_at (pattern_with inside) method_sound pattern_sound makes ts x
       (assignment_is inside o ts ∙ e))
 
-  overrides_step : (ts : List Lexeme) (x : List (Component written) × List Lexeme) (o : Option (List Lexeme))
+  overrides_step : (ts : List Lexeme) (x : List (ComponentAt written) × List Lexeme) (o : Option (List Lexeme))
       → either_way o (Ok ([], ts)) (λ us. contents_with inside override ts) ≡ Ok x → TakesFront MayOverride ts x
   overrides_step ts x None e = subst (TakesFront MayOverride ts) (ok_is ([], ts) x e) (record { front = []; is = grammar.without_overrides refl; parts = refl })
   overrides_step ts x (Some us) e =
@@ -393,7 +393,7 @@ module _ (inside : Inside) (sound : InsideSound inside) where
   bare_component_sound w (keyword keywords.Div s ∷ ts) x e =
       behind (IsBareComponent w) (keyword keywords.Div s) ts x
       (mapped_sound (Bracketed (AreComponents w) OpenBrace CloseBrace) (Behind (keyword keywords.Div s) (IsBareComponent w))
-      (λ (cs : List (Component written)). syntax.div (syntax.components_of cs)) (contents_with inside w) (contents_sound w)
+      (λ (cs : List (ComponentAt written)). syntax.div (syntax.components_of cs)) (contents_with inside w) (contents_sound w)
       (λ ts a p. grammar.div p.is (ap (λ (r : List Lexeme). keyword keywords.Div s ∷ r) p.parts) refl) ts x e)
   bare_component_sound content (keyword keywords.Include s ∷ ts) x e =
       behind (IsBareComponent content) (keyword keywords.Include s) ts x
@@ -409,7 +409,7 @@ module _ (inside : Inside) (sound : InsideSound inside) where
   unfolding component_with
   component_sound w = annotated_sound (IsComponent w) (bare_component_with inside w) (bare_component_behind w)
 
-  pub component_item : (w : Setting) (ts us : List Lexeme) (x : Component written × List Lexeme) → component_front w ts ≡ Some us
+  pub component_item : (w : Setting) (ts us : List Lexeme) (x : ComponentAt written × List Lexeme) → component_front w ts ≡ Some us
       → component_with inside w us ≡ Ok x → TakesFront (IsComponent w) ts x
   component_item w ts us x is e = component_sound w ts x (ap (component_with inside w) (component_front_is w ts us is) ∙ e)
 

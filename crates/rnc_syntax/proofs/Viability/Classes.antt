@@ -5,7 +5,7 @@ use Rattle.rnc_model.specs.declared.token.Sign.TheVariants.{Bar, Star, Minus, Op
 use Rattle.rnc_syntax.specs.declared.fault.Stop.TheVariants.{Unexpected}
 use Rattle.rnc_model.specs.tokens.Cut.{Lexeme, keyword, identifier, cname, ns_name, sign}
 use Rattle.rnc_model.specs.grammar.Syntax as syntax
-use Rattle.rnc_model.specs.grammar.Syntax.{written, NameClass}
+use Rattle.rnc_model.specs.grammar.Syntax.{written, NameClassAt}
 use Rattle.rnc_model.specs.grammar.NameClasses as grammar
 use Rattle.rnc_model.specs.grammar.NameClasses.{MayBeAnnotation, IsClass, IsBasic, IsBareBasic}
 use Rattle.rnc_syntax.specs.plain.Combinators.{Outcome, ◌>>=◌, follow, either_way, many}
@@ -19,10 +19,10 @@ use Rattle.rnc_syntax.proofs.Viability.Annotations.{ViableBehind, annotated_viab
 basic_some : Begins IsBareBasic []
 basic_some = record { behind = identifier [] ∷ []; value = syntax.name_is (syntax.unprefixed []); is = grammar.word_class {x = identifier []} refl refl }
 
-class_is : (n ts : List Lexeme) (c : NameClass written) → MayBeAnnotation n → IsBareBasic ts c → IsClass (n ++ ts) c
+class_is : (n ts : List Lexeme) (c : NameClassAt written) → MayBeAnnotation n → IsBareBasic ts c → IsClass (n ++ ts) c
 class_is n ts c may is = grammar.basic_class (basic_is n ts c may is)
 
-module _ (class : List Lexeme → Outcome (NameClass written)) (sound : Sound class IsClass) (viable : IsViable class IsClass) where
+module _ (class : List Lexeme → Outcome (NameClassAt written)) (sound : Sound class IsClass) (viable : IsViable class IsClass) where
   in_parens : Completes (Closed IsClass CloseParenthesis) (Behind (sign OpenParenthesis) IsBareBasic)
   in_parens ts c p = exactly (Behind (sign OpenParenthesis) IsBareBasic) ts c
       (grammar.class_in_parens p.is (ap (λ (r : List Lexeme). sign OpenParenthesis ∷ r) p.parts))
@@ -50,7 +50,7 @@ one_class : Completes IsBasic IsClass
 one_class ts c p = exactly IsClass ts c (grammar.basic_class p)
 
 -- classes with a `|` before each, after the first one
-classes_begin : (front : List Lexeme) (c : NameClass written) → IsBasic front c → Completes (Each (Preceded IsBasic Bar)) (Behinds front IsClass)
+classes_begin : (front : List Lexeme) (c : NameClassAt written) → IsBasic front c → Completes (Each (Preceded IsBasic Bar)) (Behinds front IsClass)
 classes_begin front c p ts [] q = exactly (Behinds front IsClass) ts c
     (grammar.basic_class (subst (λ (r : List Lexeme). IsBasic r c) (sym (append-nil front) ∙ ap (λ (r : List Lexeme). front ++ r) (sym (nothing_left q))) p))
 classes_begin front c p ts (d ∷ ds) q = exactly (Behinds front IsClass) ts (syntax.choice_of (c ∷ d ∷ ds))
@@ -70,26 +70,26 @@ excepted_viable n (Some w) ts left may v =
     (completed IsBasic (Behind (sign Minus) (Behind (ns_name w) P)) ts left (λ us c p. exactly (Behind (sign Minus) (Behind (ns_name w) P)) us
     (syntax.ns_except w c) (grammar.ns_except may p refl)) v))
 
-module _ (basic : List Lexeme → Outcome (NameClass written)) (sound : Sound basic IsBasic) (viable : IsViable basic IsBasic) where
+module _ (basic : List Lexeme → Outcome (NameClassAt written)) (sound : Sound basic IsBasic) (viable : IsViable basic IsBasic) where
   others_viable : IsViable (many (follow Bar) basic) (Each (Preceded IsBasic Bar))
   others_viable = many_viable (Preceded IsBasic Bar) (follow Bar) basic (preceded_sound IsBasic Bar basic sound) (preceded_item IsBasic Bar basic viable)
 
-  choice_step : (front : List Lexeme) (c : NameClass written) (ts : List Lexeme) (left : ℕ) (o : Option (List Lexeme)) → IsBasic front c
-      → either_way {B = Outcome (NameClass written)} o (Ok (c, ts))
+  choice_step : (front : List Lexeme) (c : NameClassAt written) (ts : List Lexeme) (left : ℕ) (o : Option (List Lexeme)) → IsBasic front c
+      → either_way {B = Outcome (NameClassAt written)} o (Ok (c, ts))
       (λ us. many (follow Bar) basic ts >>= λ others. Ok (syntax.choice_of (c ∷ others.0), others.1)) ≡ Err
       (Unexpected left) → Viable (Behinds front IsClass) ts left
   choice_step front c ts left None p e = absurd cc
   choice_step front c ts left (Some us) p e = made_viable (Each (Preceded IsBasic Bar)) (Behinds front IsClass) (many (follow Bar) basic)
       (λ others. syntax.choice_of (c ∷ others)) others_viable (classes_begin front c p) ts left e
 
-  choice_viable : (front : List Lexeme) (c : NameClass written × List Lexeme) (left : ℕ) → IsBasic front c.0 → choice_with basic c.0 c.1 ≡ Err (Unexpected left)
+  choice_viable : (front : List Lexeme) (c : NameClassAt written × List Lexeme) (left : ℕ) → IsBasic front c.0 → choice_with basic c.0 c.1 ≡ Err (Unexpected left)
       → Viable (Behinds front IsClass) c.1 left
   unfolding choice_with
   choice_viable front c left p e = choice_step front c.0 c.1 left (follow Bar c.1) p e
 
-module _ (class : List Lexeme → Outcome (NameClass written)) (sound : Sound class IsClass) (viable : IsViable class IsClass) where
+module _ (class : List Lexeme → Outcome (NameClassAt written)) (sound : Sound class IsClass) (viable : IsViable class IsClass) where
   class_step : (n ts : List Lexeme) (left : ℕ) (o : Option (Option (List ℕ) × List Lexeme)) → MayBeAnnotation n → except_front ts ≡ o
-      → either_way {B = Outcome (NameClass written)} o (bare_basic_with class ts >>= λ c. choice_with (basic_with class) c.0 c.1) (λ x. basic_with class x.1
+      → either_way {B = Outcome (NameClassAt written)} o (bare_basic_with class ts >>= λ c. choice_with (basic_with class) c.0 c.1) (λ x. basic_with class x.1
       >>= λ c. Ok (excepted x.0 c.0, c.1)) ≡ Err (Unexpected left) → Viable IsClass (n ++ ts) left
   class_step n ts left None may is e =
       elim (bind_err (bare_basic_with class ts) (λ c. choice_with (basic_with class) c.0 c.1) (Unexpected left) e) [
@@ -100,7 +100,7 @@ module _ (class : List Lexeme → Outcome (NameClass written)) (sound : Sound cl
             (choice_viable (basic_with class) (basic_sound class sound) (basic_viable class sound viable) p.front h.0 left p.is h.2)
       ]
   class_step n ts left (Some y) may is e =
-      let stopped = first_stopped {B = NameClass written × List Lexeme} (basic_with class y.1) (λ c. (excepted y.0 c.0, c.1)) (Unexpected left) e in
+      let stopped = first_stopped {B = NameClassAt written × List Lexeme} (basic_with class y.1) (λ c. (excepted y.0 c.0, c.1)) (Unexpected left) e in
       behind_tokens IsClass n (n ++ ts) ts left refl (moved (Behinds n IsClass) ts (except_tokens y.0 y.1) left (except_is ts y is)
       (excepted_viable n y.0 y.1 left may (basic_viable class sound viable y.1 left stopped)))
 

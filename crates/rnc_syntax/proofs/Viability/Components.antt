@@ -7,7 +7,7 @@ use Rattle.rng_model.specs.declared.method.Method.{Method}
 use Rattle.rng_model.specs.declared.method.Method.TheVariants as methods
 use Rattle.rnc_model.specs.tokens.Cut.{Lexeme, Spelling, keyword, identifier, sign}
 use Rattle.rnc_model.specs.grammar.Syntax as syntax
-use Rattle.rnc_model.specs.grammar.Syntax.{written, Pattern, Component}
+use Rattle.rnc_model.specs.grammar.Syntax.{written, PatternAt, ComponentAt}
 use Rattle.rnc_model.specs.grammar.Grammar as grammar
 use Rattle.rnc_model.specs.grammar.Grammar.{Setting, content, override, IsPattern, AreComponents, IsComponent, IsBareComponent, MayOverride}
 use Rattle.rnc_syntax.specs.plain.Combinators.{Outcome, ◌>>=◌, follow, either_way}
@@ -48,17 +48,17 @@ component_some w = record {
 }
 
 -- after a token, what is made of a value
-module _ {A : Type 0} (P : List Lexeme → A → Type 0) (w : Setting) (t : Lexeme) (f : A → Component written) (read : List Lexeme → Outcome A)
+module _ {A : Type 0} (P : List Lexeme → A → Type 0) (w : Setting) (t : Lexeme) (f : A → ComponentAt written) (read : List Lexeme → Outcome A)
     (viable : IsViable read P)
     (maps : (ts : List Lexeme) (a : A) → P ts a → IsBareComponent w (t ∷ ts) (f a)) where
-  component_behind : (ts : List Lexeme) (left : ℕ) → ◌≡◌ {A = Outcome (Component written)} (read ts >>= λ x. Ok (f x.0, x.1)) (Err (Unexpected left))
+  component_behind : (ts : List Lexeme) (left : ℕ) → ◌≡◌ {A = Outcome (ComponentAt written)} (read ts >>= λ x. Ok (f x.0, x.1)) (Err (Unexpected left))
       → Viable (IsBareComponent w) (t ∷ ts) left
   component_behind ts left e = behind_token (IsBareComponent w) t ts left
       (made_viable P (Behind t (IsBareComponent w)) read f viable (λ us a p. exactly (Behind t (IsBareComponent w)) us (f a) (maps us a p)) ts left e)
 
 module _ (inside : Inside) (sound : InsideSound inside) (viable : InsideViable inside) where
   -- a method and a pattern, after the name or `start`
-  assigned_viable : (w : Setting) (o : Option (List ℕ)) (t : Lexeme) → ((first second : List Lexeme) (m : Method) (u : Pattern written) → IsMethod first m
+  assigned_viable : (w : Setting) (o : Option (List ℕ)) (t : Lexeme) → ((first second : List Lexeme) (m : Method) (u : PatternAt written) → IsMethod first m
       → IsPattern second u → IsBareComponent w (t ∷ (first ++ second)) (assigned o m u))
       → (ts : List Lexeme) (left : ℕ) → assignment_with inside o ts ≡ Err (Unexpected left) → Viable (IsBareComponent w) (t ∷ ts) left
   assigned_viable w o t makes ts left e =
@@ -66,7 +66,7 @@ module _ (inside : Inside) (sound : InsideSound inside) (viable : InsideViable i
       (both_viable IsMethod IsPattern (Behind t (IsBareComponent w)) (assigned o) method_at (pattern_with inside) method_sound method_viable
       (pattern_viable inside sound viable) pattern_some makes ts left (assignment_is inside o ts ∙ e))
 
-  overrides_step : (ts : List Lexeme) (left : ℕ) (o : Option (List Lexeme)) → either_way {B = Outcome (List (Component written))} o (Ok ([], ts))
+  overrides_step : (ts : List Lexeme) (left : ℕ) (o : Option (List Lexeme)) → either_way {B = Outcome (List (ComponentAt written))} o (Ok ([], ts))
       (λ us. contents_with inside override ts) ≡ Err (Unexpected left) → Viable MayOverride ts left
   overrides_step ts left None e = absurd cc
   overrides_step ts left (Some us) e = completed (Bracketed (AreComponents override) OpenBrace CloseBrace) MayOverride ts left overrides_begin
@@ -82,7 +82,7 @@ module _ (inside : Inside) (sound : InsideSound inside) (viable : InsideViable i
   bare_component_viable w (keyword keywords.Start s ∷ ts) left e = assigned_viable w None (keyword keywords.Start s) (start_is w s) ts left e
   bare_component_viable w (keyword keywords.Div s ∷ ts) left e =
       component_behind (Bracketed (AreComponents w) OpenBrace CloseBrace) w (keyword keywords.Div s)
-      (λ (cs : List (Component written)). syntax.div (syntax.components_of cs)) (contents_with inside w) (contents_viable inside sound viable w)
+      (λ (cs : List (ComponentAt written)). syntax.div (syntax.components_of cs)) (contents_with inside w) (contents_viable inside sound viable w)
       (λ vs a p. grammar.div p.is (ap (λ (r : List Lexeme). keyword keywords.Div s ∷ r) p.parts) refl) ts left e
   bare_component_viable content (keyword keywords.Include s ∷ ts) left e =
       let t = keyword keywords.Include s in

@@ -8,7 +8,7 @@ use Rattle.rnc_model.specs.declared.token.Sign.TheVariants.{Equal, OpenBracket}
 use Rattle.rnc_syntax.specs.declared.fault.Stop.TheVariants.{Unexpected}
 use Rattle.rnc_model.specs.tokens.Cut.{Lexeme, Spelling, keyword, sign}
 use Rattle.rnc_model.specs.grammar.Syntax as syntax
-use Rattle.rnc_model.specs.grammar.Syntax.{written, Component, Uri, Declaration, Body, File}
+use Rattle.rnc_model.specs.grammar.Syntax.{written, ComponentAt, Uri, Declaration, Body, File}
 use Rattle.rnc_model.specs.grammar.Grammar as grammar
 use Rattle.rnc_model.specs.grammar.NameClasses as name_classes
 use Rattle.rnc_model.specs.grammar.Grammar.{content, IsPattern, AreComponents, IsComponent, IsUri, IsDeclaration, IsBody, IsFile}
@@ -173,7 +173,7 @@ module _ (inside : Inside) (sound : InsideSound inside) (viable : InsideViable i
         cs.1,
       )) (pattern_body_with inside ts) (Err (Unexpected left)) e) [
         | inl h ↦ made_viable (AreComponents content) IsBody (components_with inside content)
-            (λ (cs : List (Component written)). syntax.grammar_body (syntax.components_of cs)) (components_viable inside sound viable content)
+            (λ (cs : List (ComponentAt written)). syntax.grammar_body (syntax.components_of cs)) (components_viable inside sound viable content)
             (λ us cs p. exactly IsBody us (syntax.grammar_body (syntax.components_of cs)) (grammar.grammar_body p refl)) ts left h.1
         | inr h ↦ pattern_body_stuck [] (name_classes.without_annotation refl) ts left h.1
       ]
@@ -187,12 +187,12 @@ module _ (inside : Inside) (sound : InsideSound inside) (viable : InsideViable i
   grammar_read ts = bare_component_with inside content ts >>= λ c. components_with inside content c.1
       >>= λ cs. Ok (syntax.grammar_body (syntax.components_of (c.0 ∷ cs.0)), cs.1)
 
-  others_viable : (front : List Lexeme) (c : Component written) → IsComponent content front c → (ts : List Lexeme) (left : ℕ)
+  others_viable : (front : List Lexeme) (c : ComponentAt written) → IsComponent content front c → (ts : List Lexeme) (left : ℕ)
       → ◌≡◌ {A = Outcome Body} (components_with inside content ts >>= λ cs. Ok (syntax.grammar_body (syntax.components_of (c ∷ cs.0)), cs.1))
       (Err (Unexpected left)) → Viable (Behinds front IsBody) ts left
   others_viable front c p ts left e =
       made_viable (AreComponents content) (Behinds front IsBody) (components_with inside content)
-      (λ (cs : List (Component written)). syntax.grammar_body (syntax.components_of (c ∷ cs))) (components_viable inside sound viable content)
+      (λ (cs : List (ComponentAt written)). syntax.grammar_body (syntax.components_of (c ∷ cs))) (components_viable inside sound viable content)
       (λ us cs q. exactly (Behinds front IsBody) us (syntax.grammar_body (syntax.components_of (c ∷ cs)))
       (grammar.grammar_body (grammar.and_component p q refl) refl)) ts left e
 

@@ -7,7 +7,7 @@ use Rattle.rnc_model.specs.declared.token.Sign.TheVariants.{Minus}
 use Rattle.rnc_syntax.specs.declared.fault.Stop.TheVariants.{Unexpected}
 use Rattle.rnc_model.specs.tokens.Cut.{Lexeme, sign}
 use Rattle.rnc_model.specs.grammar.Syntax as syntax
-use Rattle.rnc_model.specs.grammar.Syntax.{written, DatatypeName, Pattern}
+use Rattle.rnc_model.specs.grammar.Syntax.{written, DatatypeName, PatternAt}
 use Rattle.rnc_model.specs.grammar.Grammar as grammar
 use Rattle.rnc_model.specs.grammar.NameClasses.{type_of, connector_of, MayBeAnnotation, MayBeParameters}
 use Rattle.rnc_model.specs.grammar.Grammar.{IsBarePrimary, IsPattern, IsParticle, IsPrimary}
@@ -28,7 +28,7 @@ one_primary : Completes IsPrimary IsPattern
 one_primary ts t p = exactly IsPattern ts t (grammar.one_particle (grammar.once p))
 
 -- particles with a connector before each, after the first one
-particles_begin : (front : List Lexeme) (s : Sign) (k : Connector) (t : Pattern written) → connector_of s ≡ Some k → IsParticle front t
+particles_begin : (front : List Lexeme) (s : Sign) (k : Connector) (t : PatternAt written) → connector_of s ≡ Some k → IsParticle front t
     → Completes (Each (Preceded IsParticle s)) (Behinds front IsPattern)
 particles_begin front s k t connects p ts [] q =
     exactly (Behinds front IsPattern) ts t (grammar.one_particle
@@ -54,7 +54,7 @@ module _ (inside : Inside) (sound : InsideSound inside) (viable : InsideViable i
       many_viable (Preceded IsParticle s) (follow s) (particle_with inside) (preceded_sound IsParticle s (particle_with inside) (particle_sound inside sound))
       (preceded_item IsParticle s (particle_with inside) (particle_viable inside sound viable))
 
-  rest_viable : (ts : List Lexeme) (t : Pattern written × List Lexeme) (left : ℕ) (o : Option Sign) → TakesFront IsParticle ts t → separator_of t.1 ≡ o
+  rest_viable : (ts : List Lexeme) (t : PatternAt written × List Lexeme) (left : ℕ) (o : Option Sign) → TakesFront IsParticle ts t → separator_of t.1 ≡ o
       → rest_with inside t.0 o t.1 ≡ Err (Unexpected left) → Viable IsPattern ts left
   unfolding rest_with
   rest_viable ts t left None p is e = absurd cc
@@ -63,9 +63,9 @@ module _ (inside : Inside) (sound : InsideSound inside) (viable : InsideViable i
       let others = many (follow s) (particle_with inside) t.1 in
       behind_tokens IsPattern p.front ts t.1 left p.parts
       (completed (Each (Preceded IsParticle s)) (Behinds p.front IsPattern) t.1 left (particles_begin p.front s o.2 t.0 o.3 p.is)
-      (particles_viable s t.1 left (first_stopped {B = Pattern written × List Lexeme} others (λ x. (joined s (t.0 ∷ x.0), x.1)) (Unexpected left) e)))
+      (particles_viable s t.1 left (first_stopped {B = PatternAt written × List Lexeme} others (λ x. (joined s (t.0 ∷ x.0), x.1)) (Unexpected left) e)))
 
-  from_viable : (ts : List Lexeme) (t : Pattern written × List Lexeme) (left : ℕ) → TakesFront IsPrimary ts t
+  from_viable : (ts : List Lexeme) (t : PatternAt written × List Lexeme) (left : ℕ) → TakesFront IsPrimary ts t
       → pattern_from inside t.0 t.1 ≡ Err (Unexpected left) → Viable IsPattern ts left
   from_viable ts t left p e = rest_viable ts (repeated t.0 t.1) left (separator_of (repeated t.0 t.1).1) (repeated_reads ts t.1 p.front t.0 p.is p.parts) refl e
 
@@ -80,13 +80,13 @@ module _ (inside : Inside) (sound : InsideSound inside) (viable : InsideViable i
 
   data_step : (n : List Lexeme) (t : Lexeme) (d : DatatypeName written) (ts : List Lexeme) (ps : List (List ℕ × List ℕ) × List Lexeme) (left : ℕ)
       (o : Option (List Lexeme)) → MayBeAnnotation n → type_of t ≡ Some d → TakesFront MayBeParameters ts ps → follow Minus ps.1 ≡ o
-      → either_way {B = Outcome (Pattern written)} o (pattern_from inside (syntax.data_of d ps.0) ps.1) (λ us. primary_with inside us
+      → either_way {B = Outcome (PatternAt written)} o (pattern_from inside (syntax.data_of d ps.0) ps.1) (λ us. primary_with inside us
       >>= λ t. Ok (syntax.data_except d ps.0 t.0, t.1)) ≡ Err (Unexpected left) → Viable IsPattern (n ++ t ∷ ts) left
   data_step n t d ts ps left None may is p f e =
       from_viable (n ++ t ∷ ts) (syntax.data_of d ps.0, ps.1) left (data_primary inside sound n t d ts ps may is p) e
   data_step n t d ts ps left (Some us) may is p f e =
       except_viable n t d ts ps.1 us p.front ps.0 left may is p.is p.parts (follow_is Minus ps.1 us f)
-      (primary_viable inside sound viable us left (first_stopped {B = Pattern written × List Lexeme} (primary_with inside us)
+      (primary_viable inside sound viable us left (first_stopped {B = PatternAt written × List Lexeme} (primary_with inside us)
       (λ t. (syntax.data_except d ps.0 t.0, t.1)) (Unexpected left) e))
 
   data_viable : (n : List Lexeme) (t : Lexeme) (d : DatatypeName written) (ts : List Lexeme) (left : ℕ) → MayBeAnnotation n → type_of t ≡ Some d
@@ -102,7 +102,7 @@ module _ (inside : Inside) (sound : InsideSound inside) (viable : InsideViable i
       ]
 
   pattern_step : (n ts : List Lexeme) (left : ℕ) (o : Option (DatatypeName written × List Lexeme)) → MayBeAnnotation n → data_front ts ≡ o
-      → either_way {B = Outcome (Pattern written)} o (bare_primary_with inside ts >>= λ t. pattern_from inside t.0 t.1) (λ d. parameters_at d.1
+      → either_way {B = Outcome (PatternAt written)} o (bare_primary_with inside ts >>= λ t. pattern_from inside t.0 t.1) (λ d. parameters_at d.1
       >>= λ ps. data_with inside d.0 ps.0 ps.1) ≡ Err (Unexpected left) → Viable IsPattern (n ++ ts) left
   pattern_step n ts left None may is e =
       elim (bind_err (bare_primary_with inside ts) (λ t. pattern_from inside t.0 t.1) (Unexpected left) e) [

@@ -6,7 +6,7 @@ use Rattle.rnc_model.specs.declared.token.Sign.TheVariants.{OpenBrace, CloseBrac
 use Rattle.rnc_syntax.specs.declared.fault.Stop.TheVariants.{Unexpected}
 use Rattle.rnc_model.specs.tokens.Cut.{Lexeme, keyword, identifier, cname, segment, sign}
 use Rattle.rnc_model.specs.grammar.Syntax as syntax
-use Rattle.rnc_model.specs.grammar.Syntax.{written, NameClass, DatatypeName, Pattern, Component}
+use Rattle.rnc_model.specs.grammar.Syntax.{written, NameClassAt, DatatypeName, PatternAt, ComponentAt}
 use Rattle.rnc_model.specs.grammar.Grammar as grammar
 use Rattle.rnc_model.specs.grammar.NameClasses as name_classes
 use Rattle.rnc_model.specs.grammar.Grammar.{Setting, content, IsPattern, IsParticle, IsPrimary}
@@ -36,7 +36,7 @@ pub record InsideViable (inside : Inside) : Type 0 where
 pub primary_some : Begins IsBarePrimary []
 primary_some = record { behind = identifier [] ∷ []; value = syntax.ref []; is = grammar.ref refl }
 
-pub pattern_is : (n ts : List Lexeme) (t : Pattern written) → MayBeAnnotation n → IsBarePrimary ts t → IsPattern (n ++ ts) t
+pub pattern_is : (n ts : List Lexeme) (t : PatternAt written) → MayBeAnnotation n → IsBarePrimary ts t → IsPattern (n ++ ts) t
 pattern_is n ts t may is = grammar.one_particle (grammar.once (grammar.annotated_primary may is refl))
 
 pub pattern_some : Begins IsPattern []
@@ -47,9 +47,9 @@ pattern_some = record {
 }
 
 -- after a token, what is made of a value
-module _ {A : Type 0} (P : List Lexeme → A → Type 0) (t : Lexeme) (f : A → Pattern written) (read : List Lexeme → Outcome A) (viable : IsViable read P)
+module _ {A : Type 0} (P : List Lexeme → A → Type 0) (t : Lexeme) (f : A → PatternAt written) (read : List Lexeme → Outcome A) (viable : IsViable read P)
     (maps : (ts : List Lexeme) (a : A) → P ts a → IsBarePrimary (t ∷ ts) (f a)) where
-  primary_behind : (ts : List Lexeme) (left : ℕ) → ◌≡◌ {A = Outcome (Pattern written)} (read ts >>= λ x. Ok (f x.0, x.1)) (Err (Unexpected left))
+  primary_behind : (ts : List Lexeme) (left : ℕ) → ◌≡◌ {A = Outcome (PatternAt written)} (read ts >>= λ x. Ok (f x.0, x.1)) (Err (Unexpected left))
       → Viable IsBarePrimary (t ∷ ts) left
   primary_behind ts left e = behind_token IsBarePrimary t ts left
       (made_viable P (Behind t IsBarePrimary) read f viable (λ us a p. exactly (Behind t IsBarePrimary) us (f a) (maps us a p)) ts left e)
@@ -58,7 +58,7 @@ typed_viable : (d : DatatypeName written) (t : Lexeme) (ts : List Lexeme) (left 
     → Viable IsBarePrimary (t ∷ ts) left
 unfolding typed_at
 typed_viable d t ts left is e =
-    elim (chosen {A = Outcome (Pattern written)} (begins_segment ts) (literal_at ts >>= λ v. Ok (syntax.value d v.0, v.1))
+    elim (chosen {A = Outcome (PatternAt written)} (begins_segment ts) (literal_at ts >>= λ v. Ok (syntax.value d v.0, v.1))
     (parameters_at ts >>= λ ps. Ok (syntax.data_of d ps.0, ps.1)) (Err (Unexpected left)) e) [
       | inl h ↦ primary_behind IsLiteral t (syntax.value d) literal_at literal_viable (λ us v p. grammar.value is p refl) ts left h.1
       | inr h ↦ primary_behind MayBeParameters t (syntax.data_of d) parameters_at parameters_viable (λ us ps p. grammar.data_of is p refl) ts left h.1
@@ -105,8 +105,8 @@ module _ (inside : Inside) (sound : InsideSound inside) (viable : InsideViable i
       (in_braces_viable (AreComponents w) (inside.components w) (sound.components w) (viable.components w)) (closed_contents w) ts left e)
 
   -- a name class and a pattern in braces, after a token
-  named_viable : (make : NameClass written → Pattern written → Pattern written) (t : Lexeme)
-      → ((first second : List Lexeme) (c : NameClass written) (u : Pattern written) → IsClass first c
+  named_viable : (make : NameClassAt written → PatternAt written → PatternAt written) (t : Lexeme)
+      → ((first second : List Lexeme) (c : NameClassAt written) (u : PatternAt written) → IsClass first c
       → IsBraced second u → IsBarePrimary (t ∷ (first ++ second)) (make c u))
       → (ts : List Lexeme) (left : ℕ) → named_with inside make ts ≡ Err (Unexpected left) → Viable IsBarePrimary (t ∷ ts) left
   unfolding named_with
@@ -144,7 +144,7 @@ module _ (inside : Inside) (sound : InsideSound inside) (viable : InsideViable i
       (λ us m p. grammar.external p.literal p.inherits (ap (λ (r : List Lexeme). t ∷ r) p.parts) (ap syntax.external p.standing)) ts left e
   bare_primary_viable (keyword keywords.Grammar s ∷ ts) left e =
       let t = keyword keywords.Grammar s in
-      primary_behind (Bracketed (AreComponents content) OpenBrace CloseBrace) t (λ (cs : List (Component written)). syntax.grammar (syntax.components_of cs))
+      primary_behind (Bracketed (AreComponents content) OpenBrace CloseBrace) t (λ (cs : List (ComponentAt written)). syntax.grammar (syntax.components_of cs))
       (contents_with inside content) (contents_viable content)
       (λ us cs p. grammar.grammar p.is (ap (λ (r : List Lexeme). t ∷ r) p.parts) refl) ts left e
   bare_primary_viable (identifier n ∷ ts) left e = absurd cc

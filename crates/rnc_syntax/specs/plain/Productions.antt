@@ -17,7 +17,7 @@ use Rattle.rng_model.specs.declared.method.Method.{Method}
 use Rattle.rng_model.specs.declared.method.Method.TheVariants as methods
 use Rattle.rnc_model.specs.tokens.Cut.{Lexeme, keyword, identifier, cname, ns_name, segment, sign}
 use Rattle.rnc_model.specs.grammar.Syntax as syntax
-use Rattle.rnc_model.specs.grammar.Syntax.{written, NameClass, DatatypeName, Mention, Pattern, Component, Uri, Declaration, Body, File}
+use Rattle.rnc_model.specs.grammar.Syntax.{written, NameClassAt, DatatypeName, Mention, PatternAt, ComponentAt, Uri, Declaration, Body, File}
 use Rattle.rnc_model.specs.grammar.SyntaxTrees.{joined_text}
 use Rattle.rnc_model.specs.grammar.Grammar.{Setting, content, override}
 use Rattle.rnc_syntax.specs.plain.Combinators.{Outcome, ◌>>=◌, unexpected, follow, follow_keyword, after, after_keyword, word_at, identifier_at, segment_at}
@@ -120,13 +120,13 @@ mention_at number ts = do
 -- ---- name classes
 
 -- a class in parentheses
-unfoldable pub class_in_parens : (List Lexeme → Outcome (NameClass written)) → List Lexeme → Outcome (NameClass written)
+unfoldable pub class_in_parens : (List Lexeme → Outcome (NameClassAt written)) → List Lexeme → Outcome (NameClassAt written)
 class_in_parens class ts = do
   body ← class ts
   end ← after CloseParenthesis body.1
   Ok (body.0, end.1)
 
-unfoldable pub bare_basic_with : (List Lexeme → Outcome (NameClass written)) → List Lexeme → Outcome (NameClass written)
+unfoldable pub bare_basic_with : (List Lexeme → Outcome (NameClassAt written)) → List Lexeme → Outcome (NameClassAt written)
 bare_basic_with class (identifier w ∷ ts) = Ok (syntax.name_is (syntax.unprefixed w), ts)
 bare_basic_with class (keyword k s ∷ ts) = Ok (syntax.name_is (syntax.unprefixed s.text), ts)
 bare_basic_with class (cname p l ∷ ts) = Ok (syntax.name_is (syntax.prefixed p l), ts)
@@ -135,11 +135,11 @@ bare_basic_with class (sign Star ∷ ts) = Ok (syntax.any_name, ts)
 bare_basic_with class (sign OpenParenthesis ∷ ts) = class_in_parens class ts
 bare_basic_with class ts = unexpected ts
 
-unfoldable pub basic_with : (List Lexeme → Outcome (NameClass written)) → List Lexeme → Outcome (NameClass written)
+unfoldable pub basic_with : (List Lexeme → Outcome (NameClassAt written)) → List Lexeme → Outcome (NameClassAt written)
 basic_with class ts = annotated (bare_basic_with class) ts
 
 -- classes after the first one, each with `|` before it
-unfoldable pub choice_with : (List Lexeme → Outcome (NameClass written)) → NameClass written → List Lexeme → Outcome (NameClass written)
+unfoldable pub choice_with : (List Lexeme → Outcome (NameClassAt written)) → NameClassAt written → List Lexeme → Outcome (NameClassAt written)
 choice_with basic c ts = either_way (follow Bar ts) (Ok (c, ts)) (λ us. many (follow Bar) basic ts >>= λ others. Ok (syntax.choice_of (c ∷ others.0), others.1))
 
 -- `*` or `p:*` at the front, and the tokens after it
@@ -153,36 +153,36 @@ abbrev pub except_front : List Lexeme → Option (Option (List ℕ) × List Lexe
 except_front ts = either_way (wide_front ts) None (λ x. either_way (follow Minus x.1) None (λ us. Some (x.0, us)))
 
 -- all names, or those of a prefix, except those of a class
-abbrev pub excepted : Option (List ℕ) → NameClass written → NameClass written
+abbrev pub excepted : Option (List ℕ) → NameClassAt written → NameClassAt written
 excepted None c = syntax.any_except c
 excepted (Some p) c = syntax.ns_except p c
 
 -- a class after an annotation
-unfoldable pub bare_class_with : (List Lexeme → Outcome (NameClass written)) → List Lexeme → Outcome (NameClass written)
+unfoldable pub bare_class_with : (List Lexeme → Outcome (NameClassAt written)) → List Lexeme → Outcome (NameClassAt written)
 bare_class_with class ts = either_way (except_front ts) (bare_basic_with class ts >>= λ c. choice_with (basic_with class) c.0 c.1) (λ x. basic_with class x.1
     >>= λ c. Ok (excepted x.0 c.0, c.1))
 
-unfoldable pub class_with : (List Lexeme → Outcome (NameClass written)) → List Lexeme → Outcome (NameClass written)
+unfoldable pub class_with : (List Lexeme → Outcome (NameClassAt written)) → List Lexeme → Outcome (NameClassAt written)
 class_with class ts = annotated (bare_class_with class) ts
 
 -- ---- patterns and components
 
 -- how patterns and components inside brackets are read
 pub record Inside : Type 0 where
-  pub class : List Lexeme → Outcome (NameClass written)
-  pub pattern : List Lexeme → Outcome (Pattern written)
-  pub components : Setting → List Lexeme → Outcome (List (Component written))
+  pub class : List Lexeme → Outcome (NameClassAt written)
+  pub pattern : List Lexeme → Outcome (PatternAt written)
+  pub components : Setting → List Lexeme → Outcome (List (ComponentAt written))
 
 -- a pattern in braces
-unfoldable pub braced_with : Inside → List Lexeme → Outcome (Pattern written)
+unfoldable pub braced_with : Inside → List Lexeme → Outcome (PatternAt written)
 braced_with inside ts = after OpenBrace ts >>= λ x. in_braces_at inside.pattern x.1
 
 -- components in braces
-unfoldable pub contents_with : Inside → Setting → List Lexeme → Outcome (List (Component written))
+unfoldable pub contents_with : Inside → Setting → List Lexeme → Outcome (List (ComponentAt written))
 contents_with inside w ts = after OpenBrace ts >>= λ x. in_braces_at (inside.components w) x.1
 
 -- a name class and a pattern in braces
-unfoldable pub named_with : Inside → (NameClass written → Pattern written → Pattern written) → List Lexeme → Outcome (Pattern written)
+unfoldable pub named_with : Inside → (NameClassAt written → PatternAt written → PatternAt written) → List Lexeme → Outcome (PatternAt written)
 named_with inside make ts = do
   class ← class_with inside.class ts
   body ← braced_with inside class.1
@@ -194,7 +194,7 @@ begins_segment (segment w ∷ ts) = true
 begins_segment _ = false
 
 -- a value or a datatype after its name
-unfoldable pub typed_at : DatatypeName written → List Lexeme → Outcome (Pattern written)
+unfoldable pub typed_at : DatatypeName written → List Lexeme → Outcome (PatternAt written)
 typed_at d ts = if begins_segment ts then (literal_at ts >>= λ v. Ok (syntax.value d v.0, v.1)) else
     (parameters_at ts >>= λ ps. Ok (syntax.data_of d ps.0, ps.1))
 
@@ -206,7 +206,7 @@ type_front (keyword keywords.Token s ∷ ts) = Some (syntax.token_type, ts)
 type_front _ = None
 
 -- a pattern that is a single keyword
-abbrev pub lone_front : List Lexeme → Option (Pattern written × List Lexeme)
+abbrev pub lone_front : List Lexeme → Option (PatternAt written × List Lexeme)
 lone_front (keyword keywords.Empty s ∷ ts) = Some (syntax.empty, ts)
 lone_front (keyword keywords.Text s ∷ ts) = Some (syntax.text, ts)
 lone_front (keyword keywords.NotAllowed s ∷ ts) = Some (syntax.not_allowed, ts)
@@ -214,17 +214,17 @@ lone_front (identifier n ∷ ts) = Some (syntax.ref n, ts)
 lone_front _ = None
 
 -- a primary that begins in another way and contains no other pattern
-unfoldable pub other_at : List Lexeme → Outcome (Pattern written)
+unfoldable pub other_at : List Lexeme → Outcome (PatternAt written)
 other_at (keyword keywords.Parent s ∷ ts) = identifier_at ts >>= λ x. Ok (syntax.parent_ref x.0, x.1)
 other_at (keyword keywords.External s ∷ ts) = mention_at s.number ts >>= λ m. Ok (syntax.external m.0, m.1)
 other_at (segment w ∷ ts) = literal_at (segment w ∷ ts) >>= λ v. Ok (syntax.value syntax.token_type v.0, v.1)
 other_at ts = unexpected ts
 
 -- a primary that contains no other pattern
-unfoldable pub atom_at : List Lexeme → Outcome (Pattern written)
+unfoldable pub atom_at : List Lexeme → Outcome (PatternAt written)
 atom_at ts = either_way (type_front ts) (either_way (lone_front ts) (other_at ts) (λ x. Ok x)) (λ d. typed_at d.0 d.1)
 
-unfoldable pub parens_with : Inside → List Lexeme → Outcome (Pattern written)
+unfoldable pub parens_with : Inside → List Lexeme → Outcome (PatternAt written)
 parens_with inside ts = do
   body ← inside.pattern ts
   end ← after CloseParenthesis body.1
@@ -241,7 +241,7 @@ opening_front (sign OpenParenthesis ∷ ts) = Some (openings.Parenthesis, ts)
 opening_front _ = None
 
 -- a primary that contains other patterns, after its keyword or its parenthesis
-unfoldable pub opened_with : Inside → Opening → List Lexeme → Outcome (Pattern written)
+unfoldable pub opened_with : Inside → Opening → List Lexeme → Outcome (PatternAt written)
 opened_with inside openings.Element ts = named_with inside syntax.element ts
 opened_with inside openings.Attribute ts = named_with inside syntax.attribute ts
 opened_with inside openings.List ts = braced_with inside ts >>= λ x. Ok (syntax.list x.0, x.1)
@@ -249,10 +249,10 @@ opened_with inside openings.Mixed ts = braced_with inside ts >>= λ x. Ok (synta
 opened_with inside openings.Grammar ts = contents_with inside content ts >>= λ cs. Ok (syntax.grammar (syntax.components_of cs.0), cs.1)
 opened_with inside openings.Parenthesis ts = parens_with inside ts
 
-unfoldable pub bare_primary_with : Inside → List Lexeme → Outcome (Pattern written)
+unfoldable pub bare_primary_with : Inside → List Lexeme → Outcome (PatternAt written)
 bare_primary_with inside ts = either_way (opening_front ts) (atom_at ts) (λ x. opened_with inside x.0 x.1)
 
-unfoldable pub primary_with : Inside → List Lexeme → Outcome (Pattern written)
+unfoldable pub primary_with : Inside → List Lexeme → Outcome (PatternAt written)
 primary_with inside ts = annotated (bare_primary_with inside) ts
 
 -- the sign of repetition at the front, and the tokens after it
@@ -263,19 +263,19 @@ repetition_front (sign Plus ∷ ts) = Some (repetitions.OneOrMore, ts)
 repetition_front _ = None
 
 -- a pattern that may occur so often
-abbrev pub repeated_by : Repetition → Pattern written → Pattern written
+abbrev pub repeated_by : Repetition → PatternAt written → PatternAt written
 repeated_by repetitions.Optional t = syntax.optional t
 repeated_by repetitions.ZeroOrMore t = syntax.zero_or_more t
 repeated_by repetitions.OneOrMore t = syntax.one_or_more t
 
 -- a primary with the sign of repetition after it, if there is one
-abbrev pub repeated : Pattern written → List Lexeme → Pattern written × List Lexeme
+abbrev pub repeated : PatternAt written → List Lexeme → PatternAt written × List Lexeme
 repeated t (sign Question ∷ ts) = (syntax.optional t, ts)
 repeated t (sign Star ∷ ts) = (syntax.zero_or_more t, ts)
 repeated t (sign Plus ∷ ts) = (syntax.one_or_more t, ts)
 repeated t ts = (t, ts)
 
-unfoldable pub particle_with : Inside → List Lexeme → Outcome (Pattern written)
+unfoldable pub particle_with : Inside → List Lexeme → Outcome (PatternAt written)
 particle_with inside ts = primary_with inside ts >>= λ t. Ok (repeated t.0 t.1)
 
 -- the connector that is first
@@ -286,18 +286,18 @@ separator_of (sign Bar ∷ ts) = Some Bar
 separator_of _ = None
 
 -- particles with a connector between them
-abbrev pub joined : Sign → List (Pattern written) → Pattern written
+abbrev pub joined : Sign → List (PatternAt written) → PatternAt written
 joined Comma ts = syntax.members group ts
 joined And ts = syntax.members interleave ts
 joined _ ts = syntax.members choice ts
 
 -- the rest of a pattern after its first particle
-unfoldable pub rest_with : Inside → Pattern written → Option Sign → List Lexeme → Outcome (Pattern written)
+unfoldable pub rest_with : Inside → PatternAt written → Option Sign → List Lexeme → Outcome (PatternAt written)
 rest_with inside t None ts = Ok (t, ts)
 rest_with inside t (Some s) ts = many (follow s) (particle_with inside) ts >>= λ others. Ok (joined s (t ∷ others.0), others.1)
 
 -- the rest of a pattern after its first primary
-abbrev pub pattern_from : Inside → Pattern written → List Lexeme → Outcome (Pattern written)
+abbrev pub pattern_from : Inside → PatternAt written → List Lexeme → Outcome (PatternAt written)
 pattern_from inside t ts = Ok (repeated t ts) >>= λ x. rest_with inside x.0 (separator_of x.1) x.1
 
 -- the name of a datatype at the front, and the tokens after it, unless a segment follows
@@ -305,20 +305,20 @@ abbrev pub data_front : List Lexeme → Option (DatatypeName written × List Lex
 data_front ts = either_way (type_front ts) None (λ x. if begins_segment x.1 then None else Some x)
 
 -- a datatype after its parameters
-unfoldable pub data_with : Inside → DatatypeName written → List (List ℕ × List ℕ) → List Lexeme → Outcome (Pattern written)
+unfoldable pub data_with : Inside → DatatypeName written → List (List ℕ × List ℕ) → List Lexeme → Outcome (PatternAt written)
 data_with inside d ps ts = either_way (follow Minus ts) (pattern_from inside (syntax.data_of d ps) ts) (λ us. primary_with inside us
     >>= λ t. Ok (syntax.data_except d ps t.0, t.1))
 
 -- a datatype after its name, with its parameters
-abbrev pub named_data_with : Inside → DatatypeName written → List Lexeme → Outcome (Pattern written)
+abbrev pub named_data_with : Inside → DatatypeName written → List Lexeme → Outcome (PatternAt written)
 named_data_with inside d ts = parameters_at ts >>= λ ps. data_with inside d ps.0 ps.1
 
 -- a pattern after an annotation
-unfoldable pub bare_pattern_with : Inside → List Lexeme → Outcome (Pattern written)
+unfoldable pub bare_pattern_with : Inside → List Lexeme → Outcome (PatternAt written)
 bare_pattern_with inside ts = either_way (data_front ts) (bare_primary_with inside ts >>= λ t. pattern_from inside t.0 t.1) (λ d. parameters_at d.1
     >>= λ ps. data_with inside d.0 ps.0 ps.1)
 
-unfoldable pub pattern_with : Inside → List Lexeme → Outcome (Pattern written)
+unfoldable pub pattern_with : Inside → List Lexeme → Outcome (PatternAt written)
 pattern_with inside ts = annotated (bare_pattern_with inside) ts
 
 unfoldable pub method_at : List Lexeme → Outcome Method
@@ -337,7 +337,7 @@ abbrev pub include_front : Setting → List Lexeme → Option (ℕ × List Lexem
 include_front w (keyword keywords.Include s ∷ ts) = in_content w (Some (s.number, ts))
 include_front w _ = None
 
-unfoldable pub overrides_with : Inside → List Lexeme → Outcome (List (Component written))
+unfoldable pub overrides_with : Inside → List Lexeme → Outcome (List (ComponentAt written))
 overrides_with inside ts = either_way (follow OpenBrace ts) (Ok ([], ts)) (λ us. contents_with inside override ts)
 
 -- a component or its annotation begins here
@@ -360,21 +360,21 @@ assigned_at (keyword keywords.Start s ∷ ts) = method_at ts >>= λ m. Ok ((None
 assigned_at ts = unexpected ts
 
 -- a define of the name, or a start if there is no name
-abbrev pub assigned : Option (List ℕ) → Method → Pattern written → Component written
+abbrev pub assigned : Option (List ℕ) → Method → PatternAt written → ComponentAt written
 assigned None m t = syntax.start m t
 assigned (Some n) m t = syntax.define n m t
 
-unfoldable pub bare_component_with : Inside → Setting → List Lexeme → Outcome (Component written)
+unfoldable pub bare_component_with : Inside → Setting → List Lexeme → Outcome (ComponentAt written)
 bare_component_with inside w ts = either_way (follow_keyword keywords.Div ts)
     (either_way (include_front w ts)
     (assigned_at ts >>= λ x. pattern_with inside x.1 >>= λ t. Ok (assigned x.0.0 x.0.1 t.0, t.1))
     (λ x. mention_at x.0 x.1 >>= λ m. overrides_with inside m.1 >>= λ cs. Ok (syntax.include m.0 (syntax.components_of cs.0), cs.1)))
     (λ us. contents_with inside w us >>= λ cs. Ok (syntax.div (syntax.components_of cs.0), cs.1))
 
-unfoldable pub component_with : Inside → Setting → List Lexeme → Outcome (Component written)
+unfoldable pub component_with : Inside → Setting → List Lexeme → Outcome (ComponentAt written)
 component_with inside w ts = annotated (bare_component_with inside w) ts
 
-unfoldable pub components_with : Inside → Setting → List Lexeme → Outcome (List (Component written))
+unfoldable pub components_with : Inside → Setting → List Lexeme → Outcome (List (ComponentAt written))
 components_with inside w ts = many (component_front w) (component_with inside w) ts
 
 -- how patterns and components inside brackets are read, if n brackets may be open, including these

@@ -32,15 +32,15 @@ abbrev pub text_of : Literal → List ℕ
 text_of l = joined_text (map (λ s. s.now) l.segments.items)
 
 -- a name with its prefix, if it has one
-abbrev pub name_with : Option (List ℕ) → List ℕ → syntax.Name written
+abbrev pub name_with : Option (List ℕ) → List ℕ → syntax.NameAt written
 name_with None l = syntax.unprefixed l
 name_with (Some p) l = syntax.prefixed p l
 
-abbrev pub name_of : QualifiedName → syntax.Name written
+abbrev pub name_of : QualifiedName → syntax.NameAt written
 name_of n = name_with (option_map (λ p. p.now) n.prefix) n.local.now
 
 -- one level of a name class, if the classes inside are viewed already
-abbrev pub class_step : NameClass-F (syntax.NameClass written) → syntax.NameClass written
+abbrev pub class_step : NameClass-F (syntax.NameClassAt written) → syntax.NameClassAt written
 class_step NameClass-F.Any = syntax.any_name
 class_step (NameClass-F.AnyExcept c) = syntax.any_except c.value
 class_step (NameClass-F.Ns p) = syntax.ns_name p.now
@@ -48,8 +48,8 @@ class_step (NameClass-F.NsExcept p c) = syntax.ns_except p.now c.value
 class_step (NameClass-F.Name n) = syntax.name_is (name_of n)
 class_step (NameClass-F.Choice cs) = syntax.choice_of cs.items
 
-abbrev pub class_of : NameClass → syntax.NameClass written
-class_of = fold-NameClass (syntax.NameClass written) class_step
+abbrev pub class_of : NameClass → syntax.NameClassAt written
+class_of = fold-NameClass (syntax.NameClassAt written) class_step
 
 abbrev pub type_of : DatatypeName → syntax.DatatypeName written
 type_of types.String = syntax.string_type
@@ -63,7 +63,7 @@ abbrev pub mention_of : Mention → syntax.Mention written
 mention_of m = record { href = text_of m.href; inherit = option_map (λ p. p.now) m.inherit; token = m.token }
 
 -- one level of a pattern, if the patterns and components inside are viewed already
-abbrev pub pattern_step : Pattern-F (syntax.Component written) (syntax.Pattern written) → syntax.Pattern written
+abbrev pub pattern_step : Pattern-F (syntax.ComponentAt written) (syntax.PatternAt written) → syntax.PatternAt written
 pattern_step (Pattern-F.Element c p) = syntax.element (class_of c) p.value
 pattern_step (Pattern-F.Attribute c p) = syntax.attribute (class_of c) p.value
 pattern_step (Pattern-F.List p) = syntax.list p.value
@@ -86,17 +86,17 @@ pattern_step (Pattern-F.Interleave ps) = syntax.members interleave ps.items
 pattern_step (Pattern-F.Choice ps) = syntax.members choice ps.items
 
 -- one level of a component
-abbrev pub component_step : Component-F (syntax.Component written) (syntax.Pattern written) → syntax.Component written
+abbrev pub component_step : Component-F (syntax.ComponentAt written) (syntax.PatternAt written) → syntax.ComponentAt written
 component_step (Component-F.Start m p) = syntax.start m p
 component_step (Component-F.Define n m p) = syntax.define n.now m p
 component_step (Component-F.Div cs) = syntax.div (syntax.components_of cs.items)
 component_step (Component-F.Include m cs) = syntax.include (mention_of m) (syntax.components_of cs.items)
 
-abbrev pub pattern_of : Pattern → syntax.Pattern written
-pattern_of = fold-Pattern (syntax.Component written) (syntax.Pattern written) component_step pattern_step
+abbrev pub pattern_of : Pattern → syntax.PatternAt written
+pattern_of = fold-Pattern (syntax.ComponentAt written) (syntax.PatternAt written) component_step pattern_step
 
-abbrev pub component_of : Component → syntax.Component written
-component_of = fold-Component (syntax.Component written) (syntax.Pattern written) component_step pattern_step
+abbrev pub component_of : Component → syntax.ComponentAt written
+component_of = fold-Component (syntax.ComponentAt written) (syntax.PatternAt written) component_step pattern_step
 
 abbrev pub setting_of : Setting → grammar.Setting
 setting_of settings.Content = grammar.content

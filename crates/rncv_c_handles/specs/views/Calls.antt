@@ -3,8 +3,8 @@ use Rattle.std.specs.Prelude.{◌≡◌, ◌⊎◌, ℕ, ℤ, List, [], ◌++◌
 use Rattle.rng_model.specs.schema.Schema.{Schema}
 use Rattle.rng_model.specs.declared.fault.OutOfMemory.{OutOfMemory}
 use Rattle.rng_model.specs.declared.type_set.TypeSet.{TypeSet}
-use Rattle.rncv_model.specs.answers.Verdict.{IsUnknownIn, IsVerdictOn, IsMalformed}
-use Rattle.rncv_model.specs.answers.VerdictWith.{IsVerdictOnWith}
+use Rattle.rncv_model.specs.answers.Verdict.{IsUnknownIn, IsMalformedVerdict}
+use Rattle.rncv_model.specs.answers.VerdictWith.{IsVerdictOn, IsVerdictOnWith}
 use Rattle.rng_model.specs.matching.SchemaMatching.{IsValidBySchema}
 use Rattle.rng_model.specs.xsd.SchemasWith.{IsValidBySchemaWith}
 use Rattle.rncv_model.specs.declared.verdict.Verdict.{Verdict}
@@ -59,7 +59,7 @@ pub record IsEndOf (document : Judging) (answer : Result Verdict OutOfMemory) : 
   pub verdict_with : IfOk answer (λ v. (types : TypeSet) (s : Schema) (bytes : List ℕ) → JudgesWith types document.grammar s
       → HasBeenFed document bytes → IsVerdictOnWith types s bytes v)
   pub sticky : IfSome document.fault (λ f. answer ≡ told_by f)
-  pub since : IfSome (failed_since document) (λ line. IfOk answer (λ v. IsMalformed v ⊎ (v ≡ Invalid line)))
+  pub since : IfSome (failed_since document) (λ line. IfOk answer (λ v. IsMalformedVerdict v ⊎ (v ≡ Invalid line)))
 
 -- the document has ended, the call returned this number, and this was reported to C
 pub record HasEnded (document : Judging) (number : ℤ) (old new : Judgement) : Type 0 where

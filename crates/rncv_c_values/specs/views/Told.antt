@@ -8,8 +8,7 @@ use Rattle.rnc_model.specs.loading.DatatypePlaces.{BreaksDatatypeAt}
 use Rattle.rnc_model.specs.loading.FaultPlaces.{BreaksClauseAt}
 use Rattle.rnc_model.specs.loading.Loading.{FilesHaveOnlyVerdict, file_breaks}
 use Rattle.rnc_model.specs.loading.SchemaFile.{BreaksFileClause, FileName}
-use Rattle.rncv_model.specs.answers.Verdict.{IsRefusal}
-use Rattle.rncv_model.specs.answers.VerdictWith.{IsRefusalWith}
+use Rattle.rncv_model.specs.answers.VerdictWith.{IsRefusal, IsRefusalWith}
 use Rattle.rncv_model.specs.declared.verdict.Verdict.{Verdict}
 use Rattle.rncv_model.specs.declared.verdict.Verdict.TheVariants as verdicts
 use Rattle.rncv_c_values.specs.views.Files.{files_of, first_file, index_of, main_of}

@@ -1,7 +1,8 @@
 -- How the program ends, and what its devices show of that.
 use Rattle.std.specs.Prelude.{◌≡◌, ◌<◌, ℕ, List, true, Option, Result, IfOk, IfErr, OnOk}
 use Rattle.rng_model.specs.declared.device.Device.{Device}
-use Rattle.rng_model.specs.devices.Device.{device_failures, device_flushed, device_inner}
+use Rattle.rng_model.specs.devices.Device.{device_failures, device_inner}
+use Rattle.rng_model.specs.views.DeviceViews.{device_flushed}
 use Rattle.rncv_model.specs.answers.Answer.{Answer}
 use Rattle.rncv_model.specs.answers.Run.{WritesAnswer}
 use Rattle.rncv_model.specs.declared.status.Status.{Status}

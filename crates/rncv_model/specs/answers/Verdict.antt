@@ -1,6 +1,5 @@
--- The verdict on a document, and what is reported of the files of a schema when they are compiled, and of documents by
--- this schema.
-use Rattle.std.specs.Prelude.{⊤, ◌≡◌, ℕ, List, ◌++◌, Option, Some, None, ◌≤◌, ◌⊎◌, [], All, length, take, string_bytes}
+-- The verdict on a document, and which files are a schema that breaks no clause.
+use Rattle.std.specs.Prelude.{⊤, ◌≡◌, ℕ, List, ◌++◌, Option, Some, None, ◌≤◌, ◌⊎◌, [], All, length, take}
 use Rattle.std.specs.Io.KnownBytes.{Consumes}
 use Rattle.rng_model.specs.matching.Document.{Item}
 use Rattle.rng_model.specs.documents.Lines.{lines}
@@ -13,10 +12,7 @@ use Rattle.rng_model.specs.names.Names as names
 use Rattle.rng_model.specs.schema.Schema.{Schema}
 use Rattle.rng_model.specs.schema.SchemaClauses.{BreaksNoClause, IsLeastClause}
 use Rattle.rng_model.specs.simple.SchemaForm.{SimpleForm, IsSimpleFormOfSchema}
-use Rattle.rng_model.specs.matching.SchemaMatching.{IsValidBySchema}
-use Rattle.rng_model.specs.declared.fault.SchemaFault.{SchemaFault}
-use Rattle.rng_model.specs.declared.fault.SchemaFault.TheVariants as faults
-use Rattle.rnc_model.specs.loading.Loading.{TakenFiles, file_breaks, together_break, are_taken, FilesHaveOnlyVerdict}
+use Rattle.rnc_model.specs.loading.Loading.{TakenFiles, are_taken, FilesHaveOnlyVerdict}
 use Rattle.rnc_model.specs.loading.LoadedSchema.{AreSchema}
 use Rattle.rnc_model.specs.loading.SchemaFile.{FileName, NamedFile}
 
@@ -77,10 +73,10 @@ AreSameVerdict (Invalid n) w = (m : ℕ) × (w ≡ Invalid m)
 abbrev pub IsOnlyVerdict : (Item → Type 0) → (names.Name → Type 0) → List ℕ → Verdict → Type 0
 IsOnlyVerdict IsValid IsUnknown bytes v = (w : Verdict) → IsVerdict IsValid IsUnknown bytes w → AreSameVerdict v w
 
-abbrev pub IsMalformed : Verdict → Type 0
-IsMalformed Valid = ⊥
-IsMalformed (Malformed clause line) = ⊤
-IsMalformed (Invalid n) = ⊥
+abbrev pub IsMalformedVerdict : Verdict → Type 0
+IsMalformedVerdict Valid = ⊥
+IsMalformedVerdict (Malformed clause line) = ⊤
+IsMalformedVerdict (Invalid n) = ⊥
 
 -- This is the verdict on the bytes that an input had left, and it is unique. The input was read to its end, except
 -- perhaps for a malformed document.
@@ -88,7 +84,7 @@ pub record IsJudgedBy (IsValid : Item → Type 0) (IsUnknown : names.Name → Ty
   pub document : List ℕ
   pub rest : List ℕ
   pub read : IsRead input_old input_new document rest
-  pub to_end : (rest ≡ []) ⊎ IsMalformed verdict
+  pub to_end : (rest ≡ []) ⊎ IsMalformedVerdict verdict
   pub verdict_is : IsVerdict IsValid IsUnknown document verdict
   pub only : IsOnlyVerdict IsValid IsUnknown document verdict
 
@@ -111,19 +107,6 @@ pub record HaveLeastClause (files : List NamedFile) (main : FileName) (clause : 
   pub are : AreTakenAs files main schema
   pub least : IsLeastClause schema clause
 
--- What is reported of files that are not a schema, or whose schema breaks a clause: the clause that a file breaks by
--- itself, with its name; otherwise the clause that the files break together; otherwise the least clause that their
--- schema breaks. Out of memory reports nothing.
-abbrev pub IsRefusal : List NamedFile → FileName → SchemaFault → Type 0
-IsRefusal files main (faults.File clause name) = FilesHaveOnlyVerdict files main (file_breaks (string_bytes name) clause)
-IsRefusal files main (faults.Clause clause) = FilesHaveOnlyVerdict files main (together_break clause) ⊎ HaveLeastClause files main clause
-IsRefusal files main faults.Memory = ⊤
-
 -- no element of the schema's simple form may have this name
 abbrev pub IsUnknownIn : Schema → names.Name → Type 0
 IsUnknownIn s name = (f : SimpleForm) × IsSimpleFormOfSchema s f × All (λ e. ¬ (In e.class name)) f.elements
-
--- this is the verdict on these bytes by the schema as it is written, and no other one holds
-pub record IsVerdictOn (s : Schema) (bytes : List ℕ) (v : Verdict) : Type 0 where
-  pub is : IsVerdict (IsValidBySchema s) (IsUnknownIn s) bytes v
-  pub only : IsOnlyVerdict (IsValidBySchema s) (IsUnknownIn s) bytes v

@@ -9,7 +9,7 @@ use Rattle.rng_model.specs.simple.Tree.{Simple}
 use Rattle.rng_deriv_laws.specs.plain.Events.{kinds}
 use Rattle.rng_deriv_laws.specs.plain.LevelEvents.{LevelMatcher, SettlesLevels, StandsFor}
 use Rattle.rng_deriv_laws.specs.plain.LevelStates.{LevelState}
-use Rattle.rng_deriv_laws.specs.plain.Outcomes.{FailsAt}
+use Rattle.rng_model.specs.matching.Outcomes.{FailsAt}
 use Rattle.rng_expected.specs.Expectations.{IsExpected, Next}
 use Rattle.rng_expected.specs.Tags.{IsTag, Tag}
 use Rattle.rng_reasons.specs.Reasons.{Alternatives, IsEndReason, IsStartReason}

@@ -2,7 +2,7 @@
 use Rattle.std.specs.Prelude.{⊤, List, [], Bool, true, false}
 use Rattle.rng_names.specs.plain.Keys.{Keys, KeysServe}
 use Rattle.rng_model.specs.simple.Table.{Table, grammar_of}
-use Rattle.rng_model.specs.restrictions.Restrictions.{BreaksNone}
+use Rattle.rng_model.specs.restrictions.RestrictionFaults.{BreaksNone}
 use Rattle.rng_deriv_table.specs.views.Node.{Node}
 use Rattle.rng_deriv_table.specs.declared.pattern.PatternNumber.{PatternNumber}
 use Rattle.rng_deriv_ways.specs.views.KnownWays.{AreAllKnown}

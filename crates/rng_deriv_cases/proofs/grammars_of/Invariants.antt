@@ -1,5 +1,5 @@
 use Rattle.std.proofs.Common.{All}
-use Rattle.rng_model.specs.restrictions.Restrictions.{BreaksNone}
+use Rattle.rng_model.specs.restrictions.RestrictionFaults.{BreaksNone}
 use Rattle.rng_model.specs.simple.Table.{grammar_of}
 use Rattle.rng_deriv_cases.proofs.grammars_of.Given as goal
 

@@ -6,7 +6,7 @@ use Rattle.rng_model.specs.simple.Tree.{Simple}
 use Rattle.rng_deriv_laws.specs.plain.Events.{kinds}
 use Rattle.rng_deriv_laws.specs.plain.LevelEvents.{LevelMatcher, SettlesLevels, StandsFor}
 use Rattle.rng_deriv_laws.specs.plain.LevelStates.{EndsNow, EndsWith, LevelState}
-use Rattle.rng_deriv_laws.specs.plain.Outcomes.{FailsAt}
+use Rattle.rng_model.specs.matching.Outcomes.{FailsAt}
 use Rattle.rng_deriv_events.specs.declared.progress.Progress.{Progress}
 use Rattle.rng_deriv_events.specs.declared.progress.Progress.TheVariants as progress
 

@@ -15,8 +15,7 @@ use Rattle.rng_deriv_events.specs.views.Numbers.{IsInside, Longer, tree_of}
 use Rattle.rng_deriv_events.specs.views.States.{state_of, IsStateInside}
 use Rattle.rng_deriv_events.specs.views.Strings.{IsHeld, IsHeldInside}
 use Rattle.rng_deriv_events.specs.views.OpenPositions.{OpenPosition, IsPositionKept, open_position}
-use Rattle.rng_model.specs.matching.Outcomes.{KnowsName}
-use Rattle.rng_deriv_laws.specs.plain.Outcomes.{FailsAt}
+use Rattle.rng_model.specs.matching.Outcomes.{KnowsName, FailsAt}
 use Rattle.rng_deriv_events.specs.views.FailedEvents.{IsFailedEvent}
 use Rattle.rng_deriv_events.specs.views.LevelsLeft.{LevelLeft, left_of}
 use Rattle.rng_deriv_events.specs.views.NextEnds.{LeadToEnd}

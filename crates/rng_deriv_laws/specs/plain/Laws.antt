@@ -10,7 +10,7 @@ use Rattle.rng_model.specs.documents.ElementTrees.{IsElementTree}
 use Rattle.rng_model.specs.documents.PyxTrees.{Event, Placed, item_of, events_of, a_start}
 use Rattle.rng_deriv_laws.specs.plain.States.{is_never}
 use Rattle.rng_deriv_laws.specs.plain.Events.{kinds, Matcher, new, step, run, is_valid}
-use Rattle.rng_model.specs.restrictions.Restrictions.{BreaksNone}
+use Rattle.rng_model.specs.restrictions.RestrictionFaults.{BreaksNone}
 
 abbrev pub reading : Grammar → TextTests → Reading
 reading g tests = record { grammar = g; tests = tests }

@@ -18,7 +18,7 @@ a = codes "a.rnc"
 abbrev b : FileName
 b = codes "b.rnc"
 
-abbrev mention : FileName → tree.Pattern applied
+abbrev mention : FileName → tree.PatternAt applied
 mention f = tree.external (record { href = f; inherit = inherited; token = 0 })
 
 -- ---- cycles of mentions

@@ -20,7 +20,7 @@ abbrev always : FileTree → List ℕ → Option FileTree
 always f h = Some f
 
 -- `element NAME { empty }`, where the name has this namespace
-abbrev empty_element : Namespace → List ℕ → tree.Pattern applied
+abbrev empty_element : Namespace → List ℕ → tree.PatternAt applied
 empty_element u local = tree.element (tree.name_is (record { namespace = u; local = local })) tree.empty
 
 abbrev read_element : List ℕ → List ℕ → pattern.Pattern
@@ -35,14 +35,14 @@ a_component y p = record { component = record { name = y; method = methods.Plain
 -- ---- a name that is overridden
 
 -- b.rnc: start = x   x |= element z { empty }   x |= element w { empty }
-abbrev two_of_x : tree.Components applied
+abbrev two_of_x : tree.ComponentsAt applied
 two_of_x =
     tree.component_and (tree.start methods.Plain (tree.ref (codes "x")))
     (tree.component_and (tree.define (codes "x") methods.Choice (empty_element inherited (codes "z")))
     (tree.component_and (tree.define (codes "x") methods.Choice (empty_element inherited (codes "w"))) tree.no_components))
 
 -- include "b.rnc" { x = element y { empty } }
-abbrev including : tree.Components applied
+abbrev including : tree.ComponentsAt applied
 including = tree.component_and
     (tree.include (mention inherited) (tree.component_and (tree.define (codes "x") methods.Plain (empty_element inherited (codes "y"))) tree.no_components))
     tree.no_components
@@ -60,13 +60,13 @@ abbrev first_or_second : FileTree → FileTree → List ℕ → Option FileTree
 first_or_second b c h = if bytes_eq h (codes "b.rnc") then Some b else Some c
 
 -- c.rnc: start = x   x = element w { empty }
-abbrev one_of_x : tree.Components applied
+abbrev one_of_x : tree.ComponentsAt applied
 one_of_x =
     tree.component_and (tree.start methods.Plain (tree.ref (codes "x")))
     (tree.component_and (tree.define (codes "x") methods.Plain (empty_element inherited (codes "w"))) tree.no_components)
 
 -- b.rnc: include "c.rnc" { x = element z { empty } }
-abbrev including_c : tree.Components applied
+abbrev including_c : tree.ComponentsAt applied
 including_c = tree.component_and
     (tree.include (record { href = codes "c.rnc"; inherit = inherited; token = 1 })
     (tree.component_and (tree.define (codes "x") methods.Plain (empty_element inherited (codes "z"))) tree.no_components))
@@ -82,11 +82,11 @@ overridden_twice = an_include refl refl
 -- ---- an inherited namespace
 
 -- b.rnc: start = element a { empty }
-abbrev one_start : tree.Components applied
+abbrev one_start : tree.ComponentsAt applied
 one_start = tree.component_and (tree.start methods.Plain (empty_element inherited (codes "a"))) tree.no_components
 
 -- default namespace = "u"   include "b.rnc"
-abbrev handing_on : tree.Components applied
+abbrev handing_on : tree.ComponentsAt applied
 handing_on = tree.component_and (tree.include (mention (given (codes "u"))) tree.no_components) tree.no_components
 
 handed_on : Gathers (always (grammar_file one_start)) [] [] 0 handing_on (a_component None (read_element (codes "u") (codes "a")) ∷ [])
@@ -108,11 +108,11 @@ external_grammar = grammar_file_is refl
 -- ---- a nested grammar
 
 -- start = parent x
-abbrev inner_components : tree.Components applied
+abbrev inner_components : tree.ComponentsAt applied
 inner_components = tree.component_and (tree.start methods.Plain (tree.parent_ref (codes "x"))) tree.no_components
 
 -- start = element a { grammar { start = parent x } }   x = element b { empty }
-abbrev outer_components : tree.Components applied
+abbrev outer_components : tree.ComponentsAt applied
 outer_components =
     tree.component_and
     (tree.start methods.Plain (tree.element (tree.name_is (record { namespace = inherited; local = codes "a" })) (tree.grammar inner_components)))
@@ -125,11 +125,11 @@ nested_place = nested_is (main_is refl) (a_start (element_is grammar_is) (a_defi
 -- ---- a whole schema
 
 -- start = empty
-abbrev empty_start : tree.Components applied
+abbrev empty_start : tree.ComponentsAt applied
 empty_start = tree.component_and (tree.start methods.Plain tree.empty) tree.no_components
 
 -- start = grammar { start = empty }
-abbrev grammar_start : tree.Components applied
+abbrev grammar_start : tree.ComponentsAt applied
 grammar_start = tree.component_and (tree.start methods.Plain (tree.grammar empty_start)) tree.no_components
 
 abbrev no_files : List ℕ → Option FileTree
@@ -155,11 +155,11 @@ abbrev two_grammars : Schema
 two_grammars = record { main = []; components = two_components; outer = around_two }
 
 -- the two, at their places
-data IsOneOfTwo : Place → Option Place → List ℕ → tree.Components applied → Type 0 where
+data IsOneOfTwo : Place → Option Place → List ℕ → tree.ComponentsAt applied → Type 0 where
   the_main : IsOneOfTwo [] None [] grammar_start
   the_other : IsOneOfTwo (0 ∷ []) (Some []) [] empty_start
 
-nested_in_one : {x : Place} {o : Option Place} {u : List ℕ} {cs : tree.Components applied} {all : List Gathered} {g : Gathered} {n : Nested}
+nested_in_one : {x : Place} {o : Option Place} {u : List ℕ} {cs : tree.ComponentsAt applied} {all : List Gathered} {g : Gathered} {n : Nested}
     → IsOneOfTwo x o u cs → Gathers no_files u x 0 cs all → Among g all → Among n g.nested → IsOneOfTwo n.place (Some x) n.uri n.components
 nested_in_one the_main (a_start grammar_is nothing) here here = the_other
 nested_in_one the_main (a_start grammar_is nothing) here (there j) = absurd (in_none j)
@@ -167,18 +167,18 @@ nested_in_one the_main (a_start grammar_is nothing) (there i) j = absurd (in_non
 nested_in_one the_other (a_start empty_is nothing) here j = absurd (in_none j)
 nested_in_one the_other (a_start empty_is nothing) (there i) j = absurd (in_none i)
 
-one_of_two : {x : Place} {o : Option Place} {u : List ℕ} {cs : tree.Components applied} → HasGrammar no_files (grammar_file grammar_start) x o u cs
+one_of_two : {x : Place} {o : Option Place} {u : List ℕ} {cs : tree.ComponentsAt applied} → HasGrammar no_files (grammar_file grammar_start) x o u cs
     → IsOneOfTwo x o u cs
 one_of_two (main_is e) = subst (λ cs. IsOneOfTwo [] None [] cs) (sym e) the_main
 one_of_two (nested_is h d i j) = nested_in_one (one_of_two h) d i j
 
-components_there : {x : Place} {o : Option Place} {u : List ℕ} {cs : tree.Components applied} → IsOneOfTwo x o u cs
+components_there : {x : Place} {o : Option Place} {u : List ℕ} {cs : tree.ComponentsAt applied} → IsOneOfTwo x o u cs
     → (gathered : List Gathered) × Gathers no_files u x 0 cs gathered × (two_components x ≡ Some (map (λ g. g.component) gathered)) × (around_two x ≡ o)
 components_there the_main = (_, a_start grammar_is nothing, refl, refl)
 components_there the_other = (_, a_start empty_is nothing, refl, refl)
 
 grammar_there : (x : Place) (all : List Component) → two_components x ≡ Some all
-    → (o : Option Place) × (u : List ℕ) × (cs : tree.Components applied) × HasGrammar no_files (grammar_file grammar_start) x o u cs
+    → (o : Option Place) × (u : List ℕ) × (cs : tree.ComponentsAt applied) × HasGrammar no_files (grammar_file grammar_start) x o u cs
 grammar_there [] all e = (None, [], grammar_start, main_is refl)
 grammar_there (zero ∷ []) all e = (Some [], [], empty_start, nested_is (main_is refl) (a_start grammar_is nothing) here here)
 grammar_there (zero ∷ (c ∷ x)) all e = absurd cc

@@ -14,7 +14,7 @@ use Rattle.rng_load.specs.declared.fault.FileFault.TheVariants as faults
 use Rattle.rng_load.specs.views.FileFaults.{verdict_of}
 use Rattle.rng_model.specs.names.Lists.{Among, here, there, HasTwo, first_and, both_later}
 use Rattle.rnc_model.specs.loading.FileVerdicts.{FileVerdict, breaks, has_tree}
-use Rattle.rnc_model.specs.loading.FileVerdicts.{FileHasVerdict, FileHasOnlyVerdict}
+use Rattle.rng_load.specs.views.FileVerdicts.{FileHasVerdict, FileHasOnlyVerdict}
 use Rattle.rnc_model.specs.loading.FileVerdicts.{ContentHasVerdict, ContentHasOnlyVerdict}
 use Rattle.rng_load.proofs.NameLists.{in_none, in_cons, in_left, in_right, in_more}
 

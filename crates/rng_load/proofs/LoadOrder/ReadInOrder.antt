@@ -14,7 +14,8 @@ use Rattle.rng_load.specs.views.LoadingFaults.{IsNamedTree, IsTheReading, verdic
 use Rattle.rng_load.specs.declared.fault.ReadingFault.{ReadingFault}
 use Rattle.rng_load.specs.declared.fault.ReadingFault.TheVariants as readings
 use Rattle.rnc_model.specs.loading.SchemaFile.{FileName, NamedFile}
-use Rattle.rnc_model.specs.loading.FileVerdicts.{breaks, has_tree, FileHasOnlyVerdict}
+use Rattle.rnc_model.specs.loading.FileVerdicts.{breaks, has_tree}
+use Rattle.rng_load.specs.views.FileVerdicts.{FileHasOnlyVerdict}
 use Rattle.rng_load.proofs.LoadOrder.NameSets.{entry_goes_last}
 use Rattle.rng_load.proofs.LoadOrder.TakenFiles.{IsFirm, more_firm, firm_taken, fresh, few_taken, first_broken, first_of}
 

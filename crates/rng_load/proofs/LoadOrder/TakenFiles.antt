@@ -11,7 +11,8 @@ use Rattle.rnc_model.specs.declarations.FileTree.{FileTree}
 use Rattle.rnc_model.specs.loading.Loading.{TakenFiles, with_name, hrefs_of, IsTaken, none_yet, one_more, AreTaken, IsFirstBroken, FilesVerdict, file_breaks}
 use Rattle.rnc_model.specs.loading.Loading.{together_break, are_taken}
 use Rattle.rnc_model.specs.loading.SchemaFile.{FileName, NamedFile, HasTree, BreaksOwn}
-use Rattle.rnc_model.specs.loading.FileVerdicts.{breaks, has_tree, FileHasOnlyVerdict}
+use Rattle.rnc_model.specs.loading.FileVerdicts.{breaks, has_tree}
+use Rattle.rng_load.specs.views.FileVerdicts.{FileHasOnlyVerdict}
 use Rattle.rng_load.specs.views.LoadingFaults.{IsReading, IsTheReading}
 use Rattle.rng_load.proofs.FileContent.{tree_or_clause}
 use Rattle.rng_load.proofs.NameLists.{false_true, in_none, in_cons, in_left, in_right, in_either, none_twice, twice_or, differ_more, differ_front}

@@ -29,7 +29,7 @@ no_truth t = cc
 
 -- ---- one include
 
-module _ (read : TakenFiles) (m : Mention applied) (over : tree.Components applied) where
+module _ (read : TakenFiles) (m : Mention applied) (over : tree.ComponentsAt applied) where
   pub unread : tree_in read m.href ≡ None → IsTrue false ↔ BreaksInclude read m over
   unread none = (λ t. absurd (no_truth t), λ b. absurd (breaks b)) where
     breaks : BreaksInclude read m over → ⊥
@@ -40,8 +40,8 @@ module _ (read : TakenFiles) (m : Mention applied) (over : tree.Components appli
     pub is_no_grammar : grammar_components t ≡ None → IsTrue true ↔ BreaksInclude read m over
     is_no_grammar e = (λ w. no_grammar is e, λ b. refl)
 
-    module _ (cs : tree.Components applied) (grammar : grammar_components t ≡ Some cs) where
-      its_components : {u : FileTree} {ds : tree.Components applied} → tree_in read m.href ≡ Some u → grammar_components u ≡ Some ds → ds ≡ cs
+    module _ (cs : tree.ComponentsAt applied) (grammar : grammar_components t ≡ Some cs) where
+      its_components : {u : FileTree} {ds : tree.ComponentsAt applied} → tree_in read m.href ≡ Some u → grammar_components u ≡ Some ds → ds ≡ cs
       its_components j e = same_Some _ _ (sym e ∙ ap grammar_components (same_Some _ _ (sym j ∙ is)) ∙ grammar)
 
       a_grammar : {u : FileTree} → tree_in read m.href ≡ Some u → grammar_components u ≡ None → ⊥

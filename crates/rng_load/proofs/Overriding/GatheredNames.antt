@@ -89,11 +89,11 @@ one_file ns f = record { names = names; files = λ g a. kept_name ns.included f 
   names (Some m) h = h
 
 mutual
-  pub gather_extends : (cs : tree.Components applied) (ns : Names) → Extends (gather ns cs) ns
+  pub gather_extends : (cs : tree.ComponentsAt applied) (ns : Names) → Extends (gather ns cs) ns
   gather_extends tree.no_components ns = same ns
   gather_extends (tree.component_and c cs) ns = beyond (gather_extends cs (gather_component ns c)) (component_extends c ns)
 
-  component_extends : (c : tree.Component applied) (ns : Names) → Extends (gather_component ns c) ns
+  component_extends : (c : tree.ComponentAt applied) (ns : Names) → Extends (gather_component ns c) ns
   component_extends (tree.start m p) ns = one_start ns
   component_extends (tree.define n m p) ns = one_define ns n
   component_extends (tree.div cs) ns = gather_extends cs ns
@@ -103,31 +103,31 @@ mutual
 
 module _ (read : TakenFiles) where
   -- the names of the grammar of that file are names of the components
-  abbrev GivesAll : tree.Components applied → FileName → Type 0
-  GivesAll cs f = (gcs : tree.Components applied) → grammar_in read f ≡ Some gcs → (y : Option FileName) → HasName (tree_in read) y gcs
+  abbrev GivesAll : tree.ComponentsAt applied → FileName → Type 0
+  GivesAll cs f = (gcs : tree.ComponentsAt applied) → grammar_in read f ≡ Some gcs → (y : Option FileName) → HasName (tree_in read) y gcs
       → HasName (tree_in read) y cs
 
-  abbrev GivesAllOf : tree.Component applied → FileName → Type 0
-  GivesAllOf c f = (gcs : tree.Components applied) → grammar_in read f ≡ Some gcs → (y : Option FileName) → HasName (tree_in read) y gcs
+  abbrev GivesAllOf : tree.ComponentAt applied → FileName → Type 0
+  GivesAllOf c f = (gcs : tree.ComponentsAt applied) → grammar_in read f ≡ Some gcs → (y : Option FileName) → HasName (tree_in read) y gcs
       → NamesIt (tree_in read) y c
 
-  found_tree : (f : FileName) (gcs : tree.Components applied) (o : Option FileTree) → tree_in read f ≡ o → grammar_if o ≡ Some gcs → (t : FileTree) ×
+  found_tree : (f : FileName) (gcs : tree.ComponentsAt applied) (o : Option FileTree) → tree_in read f ≡ o → grammar_if o ≡ Some gcs → (t : FileTree) ×
       (tree_in read f ≡ Some t) × (grammar_components t ≡ Some gcs)
   found_tree f gcs None e g = absurd cc
   found_tree f gcs (Some t) e g = (t, e, g)
 
-  in_file : (m : tree.Mention applied) (over : tree.Components applied) → GivesAllOf (tree.include m over) m.href
+  in_file : (m : tree.Mention applied) (over : tree.ComponentsAt applied) → GivesAllOf (tree.include m over) m.href
   in_file m over gcs g y h = let t = found_tree m.href gcs (tree_in read m.href) refl g in of_file t.1 t.2 h
 
   mutual
-    names_sound : (cs : tree.Components applied) (ns : Names) (y : Option FileName) → HasIt (gather ns cs) y → HasIt ns y ⊎ HasName (tree_in read) y cs
+    names_sound : (cs : tree.ComponentsAt applied) (ns : Names) (y : Option FileName) → HasIt (gather ns cs) y → HasIt ns y ⊎ HasName (tree_in read) y cs
     names_sound tree.no_components ns y h = inl h
     names_sound (tree.component_and c cs) ns y h = elim (names_sound cs (gather_component ns c) y h) [
       | inl a ↦ elim (component_sound c ns y a) [ inl b ↦ inl b | inr n ↦ inr (of_first n) ]
       | inr n ↦ inr (of_later n)
     ]
 
-    component_sound : (c : tree.Component applied) (ns : Names) (y : Option FileName) → HasIt (gather_component ns c) y → HasIt ns y ⊎ NamesIt (tree_in read) y c
+    component_sound : (c : tree.ComponentAt applied) (ns : Names) (y : Option FileName) → HasIt (gather_component ns c) y → HasIt ns y ⊎ NamesIt (tree_in read) y c
     component_sound (tree.start m p) ns None h = inr (of_start refl)
     component_sound (tree.start m p) ns (Some n) h = inl h
     component_sound (tree.define k m p) ns None h = inl h
@@ -137,14 +137,14 @@ module _ (read : TakenFiles) where
     component_sound (tree.include m over) ns (Some k) h = elim (names_sound over _ (Some k) h) [ inl a ↦ inl a | inr n ↦ inr (of_braces n) ]
 
   mutual
-    files_sound : (cs : tree.Components applied) (ns : Names) (f : FileName) → Among f (gather ns cs).included → Among f ns.included ⊎ GivesAll cs f
+    files_sound : (cs : tree.ComponentsAt applied) (ns : Names) (f : FileName) → Among f (gather ns cs).included → Among f ns.included ⊎ GivesAll cs f
     files_sound tree.no_components ns f a = inl a
     files_sound (tree.component_and c cs) ns f a = elim (files_sound cs (gather_component ns c) f a) [
       | inl b ↦ elim (file_sound c ns f b) [ inl d ↦ inl d | inr g ↦ inr (λ gcs e y h. of_first (g gcs e y h)) ]
       | inr g ↦ inr (λ gcs e y h. of_later (g gcs e y h))
     ]
 
-    file_sound : (c : tree.Component applied) (ns : Names) (f : FileName) → Among f (gather_component ns c).included → Among f ns.included ⊎ GivesAllOf c f
+    file_sound : (c : tree.ComponentAt applied) (ns : Names) (f : FileName) → Among f (gather_component ns c).included → Among f ns.included ⊎ GivesAllOf c f
     file_sound (tree.start m p) ns f a = inl a
     file_sound (tree.define k m p) ns f a = inl a
     file_sound (tree.div cs) ns f a = elim (files_sound cs ns f a) [ inl b ↦ inl b | inr g ↦ inr (λ gcs e y h. of_div (g gcs e y h)) ]
@@ -155,32 +155,32 @@ module _ (read : TakenFiles) where
 
   -- ---- the names of the components are gathered, if no file is left to read
 
-  pub record Covers (all : Names) (cs : tree.Components applied) : Type 0 where
+  pub record Covers (all : Names) (cs : tree.ComponentsAt applied) : Type 0 where
     pub before : Names
     pub extends : Extends all (gather before cs)
 
-  pub record CoversOne (all : Names) (c : tree.Component applied) : Type 0 where
+  pub record CoversOne (all : Names) (c : tree.ComponentAt applied) : Type 0 where
     pub before : Names
     pub extends : Extends all (gather_component before c)
 
-  first_covered : {all : Names} {c : tree.Component applied} {cs : tree.Components applied} → Covers all (tree.component_and c cs) → CoversOne all c
+  first_covered : {all : Names} {c : tree.ComponentAt applied} {cs : tree.ComponentsAt applied} → Covers all (tree.component_and c cs) → CoversOne all c
   first_covered {all} {c} {cs} v = record { before = v.before; extends = beyond v.extends (gather_extends cs (gather_component v.before c)) }
 
-  later_covered : {all : Names} {c : tree.Component applied} {cs : tree.Components applied} → Covers all (tree.component_and c cs) → Covers all cs
+  later_covered : {all : Names} {c : tree.ComponentAt applied} {cs : tree.ComponentsAt applied} → Covers all (tree.component_and c cs) → Covers all cs
   later_covered {all} {c} {cs} v = record { before = gather_component v.before c; extends = v.extends }
 
-  still_covered : {all more : Names} {cs : tree.Components applied} → Extends more all → Covers all cs → Covers more cs
+  still_covered : {all more : Names} {cs : tree.ComponentsAt applied} → Extends more all → Covers all cs → Covers more cs
   still_covered e v = record { before = v.before; extends = beyond e v.extends }
 
   abbrev IsClosed : Names → Type 0
-  IsClosed all = (f : FileName) (gcs : tree.Components applied) → Among f all.included → grammar_in read f ≡ Some gcs → Covers all gcs
+  IsClosed all = (f : FileName) (gcs : tree.ComponentsAt applied) → Among f all.included → grammar_in read f ≡ Some gcs → Covers all gcs
 
   mutual
-    all_gathered : {all : Names} → IsClosed all → {y : Option FileName} {cs : tree.Components applied} → HasName (tree_in read) y cs → Covers all cs → HasIt all y
+    all_gathered : {all : Names} → IsClosed all → {y : Option FileName} {cs : tree.ComponentsAt applied} → HasName (tree_in read) y cs → Covers all cs → HasIt all y
     all_gathered closed (of_first n) v = one_gathered closed n (first_covered v)
     all_gathered closed (of_later h) v = all_gathered closed h (later_covered v)
 
-    one_gathered : {all : Names} → IsClosed all → {y : Option FileName} {c : tree.Component applied} → NamesIt (tree_in read) y c → CoversOne all c → HasIt all y
+    one_gathered : {all : Names} → IsClosed all → {y : Option FileName} {c : tree.ComponentAt applied} → NamesIt (tree_in read) y c → CoversOne all c → HasIt all y
     one_gathered {all} closed (of_start e) v = subst (HasIt all) (sym e) (v.extends.names None refl)
     one_gathered {all} closed (of_define {n} {p} {m} e) v = subst (HasIt all) (sym e) (v.extends.names (Some n) (added_name v.before.defines n))
     one_gathered closed (of_div h) v = all_gathered closed h (record { before = v.before; extends = v.extends })
@@ -195,11 +195,11 @@ module _ (read : TakenFiles) where
   -- ---- file by file
 
   -- the names of all files that may be read: those that the components mention, and those that a file mentions
-  abbrev pub all_included : tree.Components applied → List FileName
+  abbrev pub all_included : tree.ComponentsAt applied → List FileName
   all_included cs = map href (mentions_of_components cs) ++ flat_map (λ e. hrefs_of e.1) read
 
   mutual
-    files_known : (cs : tree.Components applied) (ns : Names) (f : FileName) → Among f (gather ns cs).included → Among f ns.included ⊎ Among f (map href
+    files_known : (cs : tree.ComponentsAt applied) (ns : Names) (f : FileName) → Among f (gather ns cs).included → Among f ns.included ⊎ Among f (map href
         (mentions_of_components cs))
     files_known tree.no_components ns f a = inl a
     files_known (tree.component_and c cs) ns f a =
@@ -209,7 +209,7 @@ module _ (read : TakenFiles) where
           | inr k ↦ inr (subst (Among f) (sym parts) (in_right (map href (mentions_of_component c)) k))
         ]
 
-    file_known : (c : tree.Component applied) (ns : Names) (f : FileName) → Among f (gather_component ns c).included → Among f ns.included ⊎ Among f (map href
+    file_known : (c : tree.ComponentAt applied) (ns : Names) (f : FileName) → Among f (gather_component ns c).included → Among f ns.included ⊎ Among f (map href
         (mentions_of_component c))
     file_known (tree.start m p) ns f a = inl a
     file_known (tree.define k m p) ns f a = inl a
@@ -224,14 +224,14 @@ module _ (read : TakenFiles) where
     ]
 
   mutual
-    files_grow : (cs : tree.Components applied) (ns : Names) → (rest : List FileName) × ((gather ns cs).included ≡ ns.included ++ rest)
+    files_grow : (cs : tree.ComponentsAt applied) (ns : Names) → (rest : List FileName) × ((gather ns cs).included ≡ ns.included ++ rest)
     files_grow tree.no_components ns = ([], sym (append-nil ns.included))
     files_grow (tree.component_and c cs) ns =
         let a = file_grows c ns in
         let b = files_grow cs (gather_component ns c) in
         (a.0 ++ b.0, b.1 ∙ ap (λ fs. fs ++ b.0) a.1 ∙ append_assoc ns.included a.0 b.0)
 
-    file_grows : (c : tree.Component applied) (ns : Names) → (rest : List FileName) × ((gather_component ns c).included ≡ ns.included ++ rest)
+    file_grows : (c : tree.ComponentAt applied) (ns : Names) → (rest : List FileName) × ((gather_component ns c).included ≡ ns.included ++ rest)
     file_grows (tree.start m p) ns = ([], sym (append-nil ns.included))
     file_grows (tree.define k m p) ns = ([], sym (append-nil ns.included))
     file_grows (tree.div cs) ns = files_grow cs ns
@@ -241,20 +241,20 @@ module _ (read : TakenFiles) where
         (a.0 ++ b.0, b.1 ∙ ap (λ fs. fs ++ b.0) a.1 ∙ append_assoc ns.included a.0 b.0)
 
   mutual
-    files_differ : (cs : tree.Components applied) (ns : Names) → ¬ (HasTwice ns.included) → ¬ (HasTwice (gather ns cs).included)
+    files_differ : (cs : tree.ComponentsAt applied) (ns : Names) → ¬ (HasTwice ns.included) → ¬ (HasTwice (gather ns cs).included)
     files_differ tree.no_components ns d = d
     files_differ (tree.component_and c cs) ns d = files_differ cs (gather_component ns c) (file_differs c ns d)
 
-    file_differs : (c : tree.Component applied) (ns : Names) → ¬ (HasTwice ns.included) → ¬ (HasTwice (gather_component ns c).included)
+    file_differs : (c : tree.ComponentAt applied) (ns : Names) → ¬ (HasTwice ns.included) → ¬ (HasTwice (gather_component ns c).included)
     file_differs (tree.start m p) ns d = d
     file_differs (tree.define k m p) ns d = d
     file_differs (tree.div cs) ns d = files_differ cs ns d
     file_differs (tree.include m over) ns d = files_differ over _ (name_differs ns.included m.href d)
 
   -- these are names of the components, gathered from them and from the first files that they include
-  pub record IsGathering (cs : tree.Components applied) (looked : ℕ) (all : Names) : Type 0 where
+  pub record IsGathering (cs : tree.ComponentsAt applied) (looked : ℕ) (all : Names) : Type 0 where
     pub covered : Covers all cs
-    pub closed : (f : FileName) (gcs : tree.Components applied) → Among f (take looked all.included) → grammar_in read f ≡ Some gcs → Covers all gcs
+    pub closed : (f : FileName) (gcs : tree.ComponentsAt applied) → Among f (take looked all.included) → grammar_in read f ≡ Some gcs → Covers all gcs
     pub names : (y : Option FileName) → HasIt all y → HasName (tree_in read) y cs
     pub files : (f : FileName) → Among f all.included → GivesAll cs f
     pub differ : ¬ (HasTwice all.included)
@@ -264,7 +264,7 @@ module _ (read : TakenFiles) where
   none_has None h = false_true h
   none_has (Some n) h = in_none h
 
-  pub begins : (cs : tree.Components applied) (all : Names) → all ≡ gather no_names cs → IsGathering cs 0 all
+  pub begins : (cs : tree.ComponentsAt applied) (all : Names) → all ≡ gather no_names cs → IsGathering cs 0 all
   begins cs all e = subst (IsGathering cs 0) (sym e) (record {
     covered = record { before = no_names; extends = same (gather no_names cs) };
     closed = λ f gcs a g. absurd (in_none a);
@@ -274,7 +274,7 @@ module _ (read : TakenFiles) where
     known = λ f a. elim (files_known cs no_names f a) [ inl n ↦ absurd (in_none n) | inr k ↦ in_left k (flat_map (λ e. hrefs_of e.1) read) ];
   })
 
-  module _ (cs : tree.Components applied) (looked : ℕ) (all : Names) (g : IsGathering cs looked all) (f : FileName)
+  module _ (cs : tree.ComponentsAt applied) (looked : ℕ) (all : Names) (g : IsGathering cs looked all) (f : FileName)
       (at : slice_get all.included looked ≡ Some f) where
     -- the file is no grammar
     pub passes : grammar_in read f ≡ None → (j : ℕ) → j ≡ looked + 1 → IsGathering cs j all
@@ -290,11 +290,11 @@ module _ (read : TakenFiles) where
       differ = g.differ;
       known = g.known;
     }) where
-      some_none : {x : tree.Components applied} → Some x ≡ None → ⊥
+      some_none : {x : tree.ComponentsAt applied} → Some x ≡ None → ⊥
       some_none e = cc
 
     -- or its names are added
-    pub adds : (gcs : tree.Components applied) → grammar_in read f ≡ Some gcs → (j : ℕ) → j ≡ looked + 1 → IsGathering cs j (gather all gcs)
+    pub adds : (gcs : tree.ComponentsAt applied) → grammar_in read f ≡ Some gcs → (j : ℕ) → j ≡ looked + 1 → IsGathering cs j (gather all gcs)
     adds gcs is j e = subst (λ k. IsGathering cs k (gather all gcs)) (sym e) (record {
       covered = still_covered (gather_extends gcs all) g.covered;
       closed = λ h hcs a i. elim (one_more_taken all.included looked at (front_taken h a)) [
@@ -330,11 +330,11 @@ module _ (read : TakenFiles) where
         let within = index_within all.included looked at in
         omega (arith, few, within)
 
-    pub turned : (o : Option (tree.Components applied)) → grammar_in read f ≡ o → (j : ℕ) → j ≡ looked + 1 → IsGathering cs j (gather_if all o)
+    pub turned : (o : Option (tree.ComponentsAt applied)) → grammar_in read f ≡ o → (j : ℕ) → j ≡ looked + 1 → IsGathering cs j (gather_if all o)
     turned None i j e = passes i j e
     turned (Some gcs) i j e = adds gcs i j e
 
-  pub all_found : (cs : tree.Components applied) (looked : ℕ) (all : Names) → IsGathering cs looked all → slice_get all.included looked ≡ None →
+  pub all_found : (cs : tree.ComponentsAt applied) (looked : ℕ) (all : Names) → IsGathering cs looked all → slice_get all.included looked ≡ None →
       (y : Option FileName) → HasIt all y ↔ HasName (tree_in read) y cs
   all_found cs looked all g none y = (g.names y, λ h. all_gathered closed h g.covered) where
     closed : IsClosed all

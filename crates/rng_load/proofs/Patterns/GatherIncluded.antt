@@ -15,7 +15,7 @@ pub include_tree : (m : Box Mention Global) (over : Vec Component Global)
 include_tree m over = search (rules, tree_lemmas)
 
 module _ (files : List ℕ → Option FileTree) where
-  one_level_less : (levels : ℕ) (v : List ℕ) (x : TreePath) (k : ℕ) (cs : tree.Components applied) → 0 < levels
+  one_level_less : (levels : ℕ) (v : List ℕ) (x : TreePath) (k : ℕ) (cs : tree.ComponentsAt applied) → 0 < levels
       → gather_below files levels v x k cs ≡ gather_at files (levels - 1) v x k cs
   unfolding gather_below
   one_level_less zero v x k cs l = absurd (omega (arith, l))
@@ -24,7 +24,7 @@ module _ (files : List ℕ → Option FileTree) where
       ap (λ m. gather_at files m v x k cs) (sym e)
 
   -- they are gathered one level further down
-  pub file_gathered : (levels : ℕ) (u v : List ℕ) (x : TreePath) (o : Option (tree.Components applied)) (cs : tree.Components applied) → 0 < levels
+  pub file_gathered : (levels : ℕ) (u v : List ℕ) (x : TreePath) (o : Option (tree.ComponentsAt applied)) (cs : tree.ComponentsAt applied) → 0 < levels
       → Some cs ≡ o → u ≡ v → included_with (gather_below files levels) v x o ≡ gather_at files (levels - 1) u (0 ∷ x) 0 cs
   unfolding included_with
   file_gathered levels u v x o cs l is same =
@@ -32,13 +32,13 @@ module _ (files : List ℕ → Option FileTree) where
       (one_level_less levels v (0 ∷ x) 0 cs l ∙ ap (λ w. gather_at files (levels - 1) w (0 ∷ x) 0 cs) (sym same))
 
   -- there are none if the file is no grammar
-  pub no_grammar : (n levels : ℕ) (u v : List ℕ) (x : TreePath) (o : Option (tree.Components applied)) → None ≡ o
+  pub no_grammar : (n levels : ℕ) (u v : List ℕ) (x : TreePath) (o : Option (tree.ComponentsAt applied)) → None ≡ o
       → gather_at files n u (0 ∷ x) 0 tree.no_components ≡ included_with (gather_below files levels) v x o
   unfolding included_with gather_with
   no_grammar n levels u v x o e = ap (included_with (gather_below files levels) v x) e
 
   -- or if no level is left
-  pub no_level : (n levels : ℕ) (u v : List ℕ) (x : TreePath) (o : Option (tree.Components applied)) → levels ≡ 0
+  pub no_level : (n levels : ℕ) (u v : List ℕ) (x : TreePath) (o : Option (tree.ComponentsAt applied)) → levels ≡ 0
       → gather_at files n u (0 ∷ x) 0 tree.no_components ≡ included_with (gather_below files levels) v x o
   unfolding included_with gather_with gather_below
   no_level n levels u v x None e = refl

@@ -27,7 +27,7 @@ module _ (files : Files) where
       ap (λ g. gathered_at_end files os (after_end files o.at_end (g, y))) (sym none)
 
   -- the next component is gathered
-  pub goes_on : (levels : ℕ) (u : List ℕ) (n : ℕ) (c : tree.Component applied) (cs : List (tree.Component applied)) (end : AtEnd) (os : List OpenList)
+  pub goes_on : (levels : ℕ) (u : List ℕ) (n : ℕ) (c : tree.ComponentAt applied) (cs : List (tree.ComponentAt applied)) (end : AtEnd) (os : List OpenList)
       (x : TreePath)
       (s : List Gathered) → gathered_at_end files (record { levels = levels; uri = u; number = n + 1; left = cs; at_end = end } ∷ os)
       (s ++ gather_one_at files levels u (n ∷ drop 1 x) c, n ∷ drop 1 x)
@@ -39,7 +39,7 @@ module _ (files : Files) where
       ap (λ g. gathered_at_end files os (after_end files end (g, y))) (append_assoc s (gather_one_at files levels u (n ∷ y) c) rest)
 
   -- an include: its file, and its braces at the end of that
-  pub include_opened : (o : OpenList) (levels : ℕ) (u : List ℕ) (m : tree.Mention applied) (over : List (tree.Component applied)) (before s : List Gathered)
+  pub include_opened : (o : OpenList) (levels : ℕ) (u : List ℕ) (m : tree.Mention applied) (over : List (tree.ComponentAt applied)) (before s : List Gathered)
       (x y : TreePath) → s ≡ [] → y ≡ 0 ∷ x → o.at_end ≡ braces before levels u over
       → components_at files (0 ∷ x) o ≡ included_with (gather_below files levels) (uri_in u m.inherit) x (grammar_if (files m.href))
       → with_list files o (s, y) ≡ (before ++ gather_one_at files levels u x (tree.include m (components_of over)), x)

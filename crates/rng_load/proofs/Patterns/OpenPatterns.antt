@@ -71,7 +71,7 @@ external_made rows more most r gs e f none =
 -- ---- open patterns
 
 module _ (files : Files) where
-  all_read : (levels : ℕ) (u : List ℕ) (x : TreePath) (n : ℕ) (ps : List (tree.Pattern applied))
+  all_read : (levels : ℕ) (u : List ℕ) (x : TreePath) (n : ℕ) (ps : List (tree.PatternAt applied))
       → length ps ≡ length (read_all_at files levels u x n (patterns_of ps)).0
   unfolding read_all_with
   all_read levels u x n [] = refl
@@ -88,7 +88,7 @@ module _ (files : Files) where
       ∙ ap (λ r. finished files os y (with_row (s.0 ++ r.0) o.row, s.1 ++ r.1)) (sym none)
 
   -- the next child is read
-  pub goes_on : (row : SchemaRow) (levels : ℕ) (u : List ℕ) (n : ℕ) (p : tree.Pattern applied) (ps : List (tree.Pattern applied)) (os : List Open)
+  pub goes_on : (row : SchemaRow) (levels : ℕ) (u : List ℕ) (n : ℕ) (p : tree.PatternAt applied) (ps : List (tree.PatternAt applied)) (os : List Open)
       (x : TreePath) (s : Made) → finished files (record { row = row; levels = levels; uri = u; number = n + 1; left = ps } ∷ os) (n ∷ drop 1 x)
       (with_read s (read_at files levels u (n ∷ drop 1 x) p))
       ≡ finished files (record { row = row; levels = levels; uri = u; number = n; left = p ∷ ps } ∷ os) x s

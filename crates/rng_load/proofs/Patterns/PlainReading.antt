@@ -31,12 +31,12 @@ use Rattle.rng_load.proofs.NameLists.{in_none, in_cons, in_first, in_either, in_
 
 -- ---- the components of a file that is a grammar
 
-whole_mentions : (p : tree.Pattern applied) (cs : tree.Components applied) → whole_grammar p ≡ Some cs → mentions_of_components cs ≡ mentions_of_pattern p
+whole_mentions : (p : tree.PatternAt applied) (cs : tree.ComponentsAt applied) → whole_grammar p ≡ Some cs → mentions_of_components cs ≡ mentions_of_pattern p
 whole_mentions (tree.grammar ds) cs e = let s : ds ≡ cs = cc in ap mentions_of_components (sym s)
 whole_mentions _ cs e = absurd cc
 
 -- a grammar mentions the same files as its file
-pub grammar_mentions : (t : FileTree) (cs : tree.Components applied) → grammar_components t ≡ Some cs → mentions_of_components cs ≡ mentions_of t
+pub grammar_mentions : (t : FileTree) (cs : tree.ComponentsAt applied) → grammar_components t ≡ Some cs → mentions_of_components cs ≡ mentions_of t
 grammar_mentions (grammar_file ds) cs e = let s : ds ≡ cs = cc in ap mentions_of_components (sym s)
 grammar_mentions (pattern_file p) cs e = whole_mentions p cs e
 
@@ -53,10 +53,10 @@ module _ (files : List ℕ → Option FileTree) where
 
   -- for a readable pattern, the reader's result is what the pattern reads as
   abbrev ReaderSound : ℕ → PatternReader → Type 0
-  ReaderSound n read = (u : List ℕ) (x : TreePath) (a : tree.Pattern applied) → IsReadable files n a → Reads files u x a (read u x a).0 (read u x a).1
+  ReaderSound n read = (u : List ℕ) (x : TreePath) (a : tree.PatternAt applied) → IsReadable files n a → Reads files u x a (read u x a).0 (read u x a).1
 
   abbrev GathererSound : ℕ → Gatherer → Type 0
-  GathererSound n gather = (u : List ℕ) (x : TreePath) (k : ℕ) (cs : tree.Components applied) → AreReadable files n cs
+  GathererSound n gather = (u : List ℕ) (x : TreePath) (k : ℕ) (cs : tree.ComponentsAt applied) → AreReadable files n cs
       → Gathers files u x k cs (gather u x k cs)
 
   -- the same for a mention that can be followed
@@ -67,17 +67,17 @@ module _ (files : List ℕ → Option FileTree) where
 
   -- the components of the included file
   abbrev IncludedAre : Gatherer → tree.Mention applied → Type 0
-  IncludedAre below m = (t : FileTree) × (is : tree.Components applied) × (files m.href ≡ Some t) × (grammar_components t ≡ Some is)
+  IncludedAre below m = (t : FileTree) × (is : tree.ComponentsAt applied) × (files m.href ≡ Some t) × (grammar_components t ≡ Some is)
       × ((v : List ℕ) (x : TreePath) → Gathers files v (0 ∷ x) 0 is (included_with below v x (grammar_if (files m.href))))
 
   abbrev IncludeSound : ℕ → Gatherer → Type 0
-  IncludeSound n below = (m : tree.Mention applied) (over : tree.Components applied) → IsFollowed files n (included_file m over) → IncludedAre below m
+  IncludeSound n below = (m : tree.Mention applied) (over : tree.ComponentsAt applied) → IsFollowed files n (included_file m over) → IncludedAre below m
 
   module _ (n : ℕ) (below : PatternReader) (sound : ExternalSound n below) where
     mutual
       unfolding read_with read_all_with
 
-      read_with_sound : (u : List ℕ) (x : TreePath) (a : tree.Pattern applied) → IsReadable files n a
+      read_with_sound : (u : List ℕ) (x : TreePath) (a : tree.PatternAt applied) → IsReadable files n a
           → Reads files u x a (read_with files below u x a).0 (read_with files below u x a).1
       read_with_sound u x (tree.element c a) r = element_is (read_with_sound u (0 ∷ x) a r)
       read_with_sound u x (tree.attribute c a) r = attribute_is (read_with_sound u (0 ∷ x) a r)
@@ -98,7 +98,7 @@ module _ (files : List ℕ → Option FileTree) where
       read_with_sound u x (tree.grammar cs) r = grammar_is
       read_with_sound u x (tree.joined k all) r = joined_is (read_all_with_sound u x 0 all r)
 
-      read_all_with_sound : (u : List ℕ) (x : TreePath) (k : ℕ) (all : tree.Patterns applied) → AreFollowed files n (mentions_of_patterns all)
+      read_all_with_sound : (u : List ℕ) (x : TreePath) (k : ℕ) (all : tree.PatternsAt applied) → AreFollowed files n (mentions_of_patterns all)
           → ReadAll files u x k all (read_all_with files below u x k all).0 (read_all_with files below u x k all).1
       read_all_with_sound u x k tree.no_patterns r = none_are
       read_all_with_sound u x k (tree.pattern_and a all) r =
@@ -107,7 +107,7 @@ module _ (files : List ℕ → Option FileTree) where
           more_are (read_with_sound u (k ∷ x) a one) (read_all_with_sound u x (k + 1) all rest) refl
 
   module _ (n : ℕ) (read : PatternReader) (below : Gatherer) (read_sound : ReaderSound n read) (sound : IncludeSound n below) where
-    gather_with_sound : (u : List ℕ) (x : TreePath) (k : ℕ) (cs : tree.Components applied) → AreReadable files n cs
+    gather_with_sound : (u : List ℕ) (x : TreePath) (k : ℕ) (cs : tree.ComponentsAt applied) → AreReadable files n cs
         → Gathers files u x k cs (gather_with files read below u x k cs)
     unfolding gather_with gather_one_with
     gather_with_sound u x k tree.no_components r = nothing
@@ -147,16 +147,16 @@ module _ (files : List ℕ → Option FileTree) where
       (external_of n below (read_with_sound n (read_below files n) (external_sound n)) m f.0 f.1 f.3 u x)
 
   -- a readable pattern reads as the plain result
-  pub read_sound : (n : ℕ) (u : List ℕ) (x : TreePath) (a : tree.Pattern applied) → IsReadable files n a
+  pub read_sound : (n : ℕ) (u : List ℕ) (x : TreePath) (a : tree.PatternAt applied) → IsReadable files n a
       → Reads files u x a (read_at files n u x a).0 (read_at files n u x a).1
   read_sound n = read_with_sound n (read_below files n) (external_sound n)
 
   -- readable patterns read as the plain results
-  pub read_all_sound : (n : ℕ) (u : List ℕ) (x : TreePath) (k : ℕ) (all : tree.Patterns applied) → AreFollowed files n (mentions_of_patterns all)
+  pub read_all_sound : (n : ℕ) (u : List ℕ) (x : TreePath) (k : ℕ) (all : tree.PatternsAt applied) → AreFollowed files n (mentions_of_patterns all)
       → ReadAll files u x k all (read_all_at files n u x k all).0 (read_all_at files n u x k all).1
   read_all_sound n = read_all_with_sound n (read_below files n) (external_sound n)
 
-  included_of : (n : ℕ) (below : Gatherer) → GathererSound n below → (m : tree.Mention applied) (t : FileTree) (is : tree.Components applied)
+  included_of : (n : ℕ) (below : Gatherer) → GathererSound n below → (m : tree.Mention applied) (t : FileTree) (is : tree.ComponentsAt applied)
       → files m.href ≡ Some t → grammar_components t ≡ Some is → AreReadable files n is → IncludedAre below m
   unfolding included_with
   included_of n below sound m t is e g all =
@@ -172,7 +172,7 @@ module _ (files : List ℕ → Option FileTree) where
       (subst (AreFollowed files n) (sym (grammar_mentions f.0 f.2.0 f.2.1)) f.3)
 
   -- readable components are gathered as the plain result
-  pub gather_sound : (n : ℕ) (u : List ℕ) (x : TreePath) (k : ℕ) (cs : tree.Components applied) → AreReadable files n cs
+  pub gather_sound : (n : ℕ) (u : List ℕ) (x : TreePath) (k : ℕ) (cs : tree.ComponentsAt applied) → AreReadable files n cs
       → Gathers files u x k cs (gather_at files n u x k cs)
   gather_sound n = gather_with_sound n (read_at files n) (gather_below files n) (read_sound n) (include_sound n)
 
@@ -230,7 +230,7 @@ module _ (files : List ℕ → Option FileTree) where
 
   mutual
     -- the grammars that are nested in a readable pattern are readable
-    pub nested_readable : {u : List ℕ} {x : TreePath} {a : tree.Pattern applied} {p : Pattern} {gs : List Nested} → Reads files u x a p gs → (n : ℕ)
+    pub nested_readable : {u : List ℕ} {x : TreePath} {a : tree.PatternAt applied} {p : Pattern} {gs : List Nested} → Reads files u x a p gs → (n : ℕ)
         → IsReadable files n a → NestedReadable n gs
     nested_readable (element_is d) n r = nested_readable d n r
     nested_readable (attribute_is d) n r = nested_readable d n r
@@ -257,7 +257,7 @@ module _ (files : List ℕ → Option FileTree) where
         nested_more n file.less (g ∷ []) file.is (one_nested file.less g file.all)
     nested_readable (joined_is d) n r = all_nested_readable d n r
 
-    all_nested_readable : {u : List ℕ} {x : TreePath} {k : ℕ} {all : tree.Patterns applied} {ps : List Pattern} {gs : List Nested}
+    all_nested_readable : {u : List ℕ} {x : TreePath} {k : ℕ} {all : tree.PatternsAt applied} {ps : List Pattern} {gs : List Nested}
         → ReadAll files u x k all ps gs → (n : ℕ) → AreFollowed files n (mentions_of_patterns all) → NestedReadable n gs
     all_nested_readable none_are n r = none_nested n
     all_nested_readable (more_are {a = a} {all} {gs = gs} {hs} d ds e) n r =
@@ -288,7 +288,7 @@ module _ (files : List ℕ → Option FileTree) where
   in_filtered test h (g ∷ gs) i = kept test (test g) g h gs (in_filtered test h gs) i
 
   -- the grammars that are nested in readable components are readable
-  pub gathered_readable : {u : List ℕ} {x : TreePath} {k : ℕ} {cs : tree.Components applied} {all : List Gathered} → Gathers files u x k cs all → (n : ℕ)
+  pub gathered_readable : {u : List ℕ} {x : TreePath} {k : ℕ} {cs : tree.ComponentsAt applied} {all : List Gathered} → Gathers files u x k cs all → (n : ℕ)
       → AreReadable files n cs → GatheredReadable n all
   gathered_readable nothing n r = λ g i. absurd (in_none i)
   gathered_readable (a_start {a = a} {cs} {rest = rest} d ds) n r =
@@ -313,7 +313,7 @@ module _ (files : List ℕ → Option FileTree) where
       (both_gathered n (filter test included ++ overriding) rest (both_gathered n (filter test included) overriding left braces) more)
 
   -- if the components of the main file are readable, so are those of each grammar
-  pub grammars_readable : {main : FileTree} {x : Place} {o : Option Place} {u : List ℕ} {cs : tree.Components applied} → HasGrammar files main x o u cs
+  pub grammars_readable : {main : FileTree} {x : Place} {o : Option Place} {u : List ℕ} {cs : tree.ComponentsAt applied} → HasGrammar files main x o u cs
       → (n : ℕ) → AreReadable files n (main_grammar main) → AreReadable files n cs
   grammars_readable (main_is e) n r = subst (AreReadable files n) (sym e) r
   grammars_readable (nested_is {g = g} {n = nested} h d i j) n r = gathered_readable d n (grammars_readable h n r) g i nested j
@@ -327,7 +327,7 @@ only_that ms i = elim (in_either ms i) [ inl j ↦ j | inr j ↦ absurd (in_none
 pub main_mentions : (t : FileTree) (m : MentionedFile) → Among m (mentions_of_components (main_grammar t)) → Among m (mentions_of t)
 main_mentions (grammar_file cs) m i = i
 main_mentions (pattern_file p) m i = by_whole (whole_grammar p) refl i where
-  by_whole : (o : Option (tree.Components applied)) → whole_grammar p ≡ o → Among m (mentions_of_components (grammar_or_start p o))
+  by_whole : (o : Option (tree.ComponentsAt applied)) → whole_grammar p ≡ o → Among m (mentions_of_components (grammar_or_start p o))
       → Among m (mentions_of_pattern p)
   by_whole None e i = only_that (mentions_of_pattern p) i
   by_whole (Some cs) e i = subst (Among m) (whole_mentions p cs e) i
@@ -361,7 +361,7 @@ module _ (read : TakenFiles) where
           let file = found_among read f t e in
           (file.0, file.1, (included_file m over, subst (λ t. Among (included_file m over) (mentions_of t)) (sym file.2) i, no_grammar g n))
 
-      by_grammar : (o : Option (tree.Components applied)) → grammar_components s ≡ o → (is : tree.Components applied) × (grammar_components s ≡ Some is)
+      by_grammar : (o : Option (tree.ComponentsAt applied)) → grammar_components s ≡ o → (is : tree.ComponentsAt applied) × (grammar_components s ≡ Some is)
       by_grammar None n = absurd (kept (broken n))
       by_grammar (Some is) n = (is, n)
 
@@ -383,6 +383,6 @@ module _ (read : TakenFiles) where
           all_followed path_limit main t there_is (λ long. paths (breaks_here (hrefs_in read) (long_breaks (hrefs_in read) long))) m (main_mentions t m i)
 
       -- and so are those of each grammar at a place
-      pub all_readable : {x : Place} {o : Option Place} {u : List ℕ} {cs : tree.Components applied} → HasGrammar (tree_in read) t x o u cs
+      pub all_readable : {x : Place} {o : Option Place} {u : List ℕ} {cs : tree.ComponentsAt applied} → HasGrammar (tree_in read) t x o u cs
           → AreReadable (tree_in read) path_limit cs
       all_readable h = grammars_readable (tree_in read) h path_limit main_readable

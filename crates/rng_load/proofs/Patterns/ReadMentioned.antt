@@ -20,7 +20,7 @@ data_tree d None = search (rules, tree_lemmas)
 data_tree d (Some b) = search (rules, tree_lemmas)
 
 module _ (files : List ℕ → Option FileTree) where
-  one_level_less : (levels : ℕ) (v : List ℕ) (x : TreePath) (a : tree.Pattern applied) → 0 < levels
+  one_level_less : (levels : ℕ) (v : List ℕ) (x : TreePath) (a : tree.PatternAt applied) → 0 < levels
       → read_below files levels v x a ≡ read_at files (levels - 1) v x a
   unfolding read_below
   one_level_less zero v x a l = absurd (omega (arith, l))
@@ -29,7 +29,7 @@ module _ (files : List ℕ → Option FileTree) where
       ap (λ k. read_at files k v x a) (sym e)
 
   -- it is read one level further down
-  file_read : (levels : ℕ) (u v : List ℕ) (x : TreePath) (o : Option FileTree) (a : tree.Pattern applied) → 0 < levels → Some (pattern_file a) ≡ o → u ≡ v
+  file_read : (levels : ℕ) (u v : List ℕ) (x : TreePath) (o : Option FileTree) (a : tree.PatternAt applied) → 0 < levels → Some (pattern_file a) ≡ o → u ≡ v
       → external_with (read_below files levels) v x o ≡ within pattern.external (read_at files (levels - 1) u (0 ∷ x) a)
   unfolding external_with
   file_read levels u v x o a l is same =
@@ -37,7 +37,7 @@ module _ (files : List ℕ → Option FileTree) where
       (ap (within pattern.external) (one_level_less levels v (0 ∷ x) a l ∙ ap (λ w. read_at files (levels - 1) w (0 ∷ x) a) (sym same)))
 
   -- as the only child
-  pub file_opened : (levels : ℕ) (u v : List ℕ) (x : TreePath) (o : Option FileTree) (a : tree.Pattern applied) → 0 < levels → Some (pattern_file a) ≡ o → u ≡ v
+  pub file_opened : (levels : ℕ) (u v : List ℕ) (x : TreePath) (o : Option FileTree) (a : tree.PatternAt applied) → 0 < levels → Some (pattern_file a) ≡ o → u ≡ v
       → (
         pattern.external (child (read_all_at files (levels - 1) u x 0 (tree.pattern_and a tree.no_patterns)).0),
         (read_all_at files (levels - 1) u x 0 (tree.pattern_and a tree.no_patterns)).1,

@@ -144,7 +144,7 @@ one_nested (g ∷ gs) i = elim (in_either g.nested i) [ inl j ↦ (g, here, j) |
 
 module _ (files : List ℕ → Option FileTree) (main : FileTree) where
   -- the components at a place are gathered in only one way
-  gathered_once : {x : Place} {o p : Option Place} {u v : List ℕ} {cs ds : tree.Components applied} → HasGrammar files main x o u cs
+  gathered_once : {x : Place} {o p : Option Place} {u v : List ℕ} {cs ds : tree.ComponentsAt applied} → HasGrammar files main x o u cs
       → HasGrammar files main x p v ds → gathered_at files u x cs ≡ gathered_at files v x ds
   gathered_once {x} h k = let one = one_grammar files main h k in ap₂ (λ u cs. gathered_at files u x cs) one.1 one.2
 
@@ -171,7 +171,7 @@ module _ (files : List ℕ → Option FileTree) (main : FileTree) where
     known_inside : (n : Nested) → Among n (nested_in all) → IsKnown next now n.place
     known_inside n i = inr (in_right left (among_left x (nested_in all) i))
 
-    here_known : {p : Option Place} {v : List ℕ} {ds : tree.Components applied} → HasGrammar files main x p v ds → (n : Nested)
+    here_known : {p : Option Place} {v : List ℕ} {ds : tree.ComponentsAt applied} → HasGrammar files main x p v ds → (n : Nested)
         → Among n (nested_in (gathered_at files v x ds)) → IsKnown next now n.place
     here_known h n i = known_inside n (subst (λ gs. Among n (nested_in gs)) (gathered_once h has.there ∙ sym has.are) i)
 
@@ -192,7 +192,7 @@ module _ (files : List ℕ → Option FileTree) (main : FileTree) where
 
   module _ (readable : CanBeRead files main) where
     -- what is gathered plainly is what the place has
-    pub gathers_at : {x : Place} {o : Option Place} {u : List ℕ} {cs : tree.Components applied} → HasGrammar files main x o u cs
+    pub gathers_at : {x : Place} {o : Option Place} {u : List ℕ} {cs : tree.ComponentsAt applied} → HasGrammar files main x o u cs
         → Gathers files u x 0 cs (gathered_at files u x cs)
     gathers_at {x} {o} {u} {cs} h = gather_sound files path_limit u x 0 cs (grammars_readable files h path_limit readable)
 
@@ -217,7 +217,7 @@ module _ (files : List ℕ → Option FileTree) (main : FileTree) where
       none_left : {x : Place} → IsKnown gs [] x → IsFound x gs
       none_left k = elim k [ inl f ↦ f | inr i ↦ absurd (in_none i) ]
 
-      pub all_found : {x : Place} {o : Option Place} {u : List ℕ} {cs : tree.Components applied} → HasGrammar files main x o u cs → IsFound x gs
+      pub all_found : {x : Place} {o : Option Place} {u : List ℕ} {cs : tree.ComponentsAt applied} → HasGrammar files main x o u cs → IsFound x gs
       all_found (main_is e) = none_left found.main_known
       all_found (nested_is {x} {o} {u} {cs} {g = g} {n} h d i j) =
           let same = one_gathering files d (gathers_at h) in
@@ -226,7 +226,7 @@ module _ (files : List ℕ → Option FileTree) (main : FileTree) where
       right_at : (x : Place) (g : PlacedGrammar) → grammar_at gs x ≡ Some g → IsGrammarAt files main x g
       right_at x g f = found.right (x, g) (among_at x gs g f)
 
-      there_is : (x : Place) (o : Option Place) (u : List ℕ) (cs : tree.Components applied) → HasGrammar files main x o u cs → (gathered : List Gathered)
+      there_is : (x : Place) (o : Option Place) (u : List ℕ) (cs : tree.ComponentsAt applied) → HasGrammar files main x o u cs → (gathered : List Gathered)
           × Gathers files u x 0 cs gathered × ((schema_with [] gs).components x ≡ Some (map (λ g. g.component) gathered))
           × ((schema_with [] gs).outer x ≡ o)
       there_is x o u cs h =
@@ -237,7 +237,7 @@ module _ (files : List ℕ → Option FileTree) (main : FileTree) where
           (gathered_at files u x cs, gathers_at h, ap (option_map (λ g. g.components)) f.1 ∙ ap (λ cs. Some cs) are, ap outer_if f.1 ∙ sym one.0)
 
       only : (x : Place) (all : List schema.Component) (o : Option PlacedGrammar) → grammar_at gs x ≡ o → option_map (λ g. g.components) o ≡ Some all
-          → (o : Option Place) × (u : List ℕ) × (cs : tree.Components applied) × HasGrammar files main x o u cs
+          → (o : Option Place) × (u : List ℕ) × (cs : tree.ComponentsAt applied) × HasGrammar files main x o u cs
       only x all None f e = absurd cc
       only x all (Some g) f e = let r = right_at x g f in (g.outer, r.uri, r.components, r.there)
 

@@ -15,18 +15,18 @@ use Rattle.rng_load.proofs.Places.PlacesApart.{longer, same_entry, in_nested, ga
 
 module _ (files : List ℕ → Option FileTree) (main : FileTree) where
   -- the number of grammars around a grammar
-  abbrev pub depth : {x : Place} {o : Option Place} {u : List ℕ} {cs : tree.Components applied} → HasGrammar files main x o u cs → ℕ
+  abbrev pub depth : {x : Place} {o : Option Place} {u : List ℕ} {cs : tree.ComponentsAt applied} → HasGrammar files main x o u cs → ℕ
   depth (main_is e) = 0
   depth (nested_is h d i j) = suc (depth h)
 
   -- two are equal: the place, the one around it, the namespace and the components
-  pub record AreOne (x y : Place) (o p : Option Place) (u v : List ℕ) (cs ds : tree.Components applied) : Type 0 where
+  pub record AreOne (x y : Place) (o p : Option Place) (u v : List ℕ) (cs ds : tree.ComponentsAt applied) : Type 0 where
     pub place : x ≡ y
     pub outer : o ≡ p
     pub uri : u ≡ v
     pub components : cs ≡ ds
 
-  gathered_once : {x y : Place} {u v : List ℕ} {cs ds : tree.Components applied} {all more : List Gathered} → x ≡ y → u ≡ v → cs ≡ ds
+  gathered_once : {x y : Place} {u v : List ℕ} {cs ds : tree.ComponentsAt applied} {all more : List Gathered} → x ≡ y → u ≡ v → cs ≡ ds
       → Gathers files u x 0 cs all → Gathers files v y 0 ds more → all ≡ more
   gathered_once {x} {y} {u} {v} {cs} {ds} {all} {more} e f g a b =
       one_gathering files a (subst (λ w. Gathers files w x 0 cs more) (sym f) (subst (λ z. Gathers files v z 0 cs more) (sym e)
@@ -36,7 +36,7 @@ module _ (files : List ℕ → Option FileTree) (main : FileTree) where
   further_up f g i z = append_assoc (f ++ g) (i ∷ []) z ∙ append_assoc f g (i ∷ z)
 
   -- a way extends the place of at most one grammar of each depth
-  pub one_at_depth : {x y : Place} {o p : Option Place} {u v : List ℕ} {cs ds : tree.Components applied} (h : HasGrammar files main x o u cs)
+  pub one_at_depth : {x y : Place} {o p : Option Place} {u v : List ℕ} {cs ds : tree.ComponentsAt applied} (h : HasGrammar files main x o u cs)
       → (k : HasGrammar files main y p v ds) → depth h ≡ depth k → (f g : TreePath) → f ++ x ≡ g ++ y → AreOne x y o p u v cs ds
   one_at_depth (main_is d) (main_is e) l f g w = record { place = refl; outer = refl; uri = refl; components = d ∙ sym e }
   one_at_depth (main_is d) (nested_is k e i j) l f g w = absurd (omega (arith, l))
@@ -55,7 +55,7 @@ module _ (files : List ℕ → Option FileTree) (main : FileTree) where
     pub place : Place
     pub outer : Option Place
     pub uri : List ℕ
-    pub components : tree.Components applied
+    pub components : tree.ComponentsAt applied
     pub there : HasGrammar files main place outer uri components
     pub deep : depth there ≡ k
     pub way : TreePath
@@ -76,7 +76,7 @@ module _ (files : List ℕ → Option FileTree) (main : FileTree) where
   }
 
   -- a grammar with more than k grammars around it has one of depth k among them
-  pub around : {x : Place} {o : Option Place} {u : List ℕ} {cs : tree.Components applied} (h : HasGrammar files main x o u cs) (k : ℕ) → k < depth h
+  pub around : {x : Place} {o : Option Place} {u : List ℕ} {cs : tree.ComponentsAt applied} (h : HasGrammar files main x o u cs) (k : ℕ) → k < depth h
       → Around x k
   around (main_is e) k l = absurd (omega (arith, l))
   around (nested_is {x} {o} {u} {cs} {n = n} h d i j) k l =
@@ -86,7 +86,7 @@ module _ (files : List ℕ → Option FileTree) (main : FileTree) where
         | inr b ↦ elim b [ inl s ↦ further n.place x c.0 c.1 k c.3 (around h k s) | inr g ↦ absurd (omega (arith, l, g)) ]
       ]
 
-  never : {x : Place} {o p : Option Place} {u v : List ℕ} {cs ds : tree.Components applied} (h : HasGrammar files main x o u cs)
+  never : {x : Place} {o p : Option Place} {u v : List ℕ} {cs ds : tree.ComponentsAt applied} (h : HasGrammar files main x o u cs)
       → (k : HasGrammar files main x p v ds) → depth h < depth k → ⊥
   never {x} h k l =
       let r = around k (depth h) l in
@@ -98,7 +98,7 @@ module _ (files : List ℕ → Option FileTree) (main : FileTree) where
   main_there = main_is refl
 
   -- at a place there is at most one grammar, one around it, and one namespace that its file inherits
-  pub one_grammar : {x : Place} {o p : Option Place} {u v : List ℕ} {cs ds : tree.Components applied} → HasGrammar files main x o u cs
+  pub one_grammar : {x : Place} {o p : Option Place} {u v : List ℕ} {cs ds : tree.ComponentsAt applied} → HasGrammar files main x o u cs
       → HasGrammar files main x p v ds → (o ≡ p) × (u ≡ v) × (cs ≡ ds)
   one_grammar h k = elim (cases_order (depth h) (depth k)) [
     | inl e ↦ let r = one_at_depth h k e [] [] refl in (r.outer, r.uri, r.components)

@@ -14,23 +14,23 @@ use Rattle.rnc_model.specs.loading.Places.{empty_is, text_is, not_allowed_is, va
 use Rattle.rnc_model.specs.loading.Places.{joined_is}
 use Rattle.rnc_model.specs.loading.Places.{ReadAll, none_are, more_are}
 
-same_content : {o : Option FileTree} {a b : tree.Pattern applied} → o ≡ Some (pattern_file a) → o ≡ Some (pattern_file b) → b ≡ a
+same_content : {o : Option FileTree} {a b : tree.PatternAt applied} → o ≡ Some (pattern_file a) → o ≡ Some (pattern_file b) → b ≡ a
 same_content e f = cc
 
-same_components : {o : Option FileTree} {a b : tree.Components applied} → o ≡ Some (grammar_file a) → o ≡ Some (grammar_file b) → a ≡ b
+same_components : {o : Option FileTree} {a b : tree.ComponentsAt applied} → o ≡ Some (grammar_file a) → o ≡ Some (grammar_file b) → a ≡ b
 same_components e f = cc
 
-not_both : {o : Option FileTree} {a : tree.Pattern applied} {b : tree.Components applied} → o ≡ Some (pattern_file a) → o ≡ Some (grammar_file b) → ⊥
+not_both : {o : Option FileTree} {a : tree.PatternAt applied} {b : tree.ComponentsAt applied} → o ≡ Some (pattern_file a) → o ≡ Some (grammar_file b) → ⊥
 not_both e f = cc
 
-same_included : {o : Option FileTree} {f g : FileTree} {a b : tree.Components applied} → o ≡ Some f → o ≡ Some g → grammar_components f ≡ Some a → grammar_components g ≡ Some b
+same_included : {o : Option FileTree} {f g : FileTree} {a b : tree.ComponentsAt applied} → o ≡ Some f → o ≡ Some g → grammar_components f ≡ Some a → grammar_components g ≡ Some b
     → b ≡ a
 same_included e f i j = cc
 
 module _ (files : List ℕ → Option FileTree) where
   mutual
     -- a pattern is read in only one way
-    pub one_pattern : {u : List ℕ} {x : TreePath} {a : tree.Pattern applied} {p q : Pattern} {gs hs : List Nested} → Reads files u x a p gs
+    pub one_pattern : {u : List ℕ} {x : TreePath} {a : tree.PatternAt applied} {p q : Pattern} {gs hs : List Nested} → Reads files u x a p gs
         → Reads files u x a q hs → (p ≡ q) × (gs ≡ hs)
     one_pattern (element_is d) (element_is {u} {c = c} e) = let i = one_pattern d e in (ap (pattern.element (class_in u c)) i.0, i.1)
     one_pattern (attribute_is d) (attribute_is {u} {c = c} e) = let i = one_pattern d e in (ap (pattern.attribute (class_in u c)) i.0, i.1)
@@ -58,7 +58,7 @@ module _ (files : List ℕ → Option FileTree) where
     one_pattern (joined_is d) (joined_is {k = k} e) = let i = all_one d e in (ap (joined_members k) i.0, i.1)
 
     -- patterns are read in only one way
-    pub all_one : {u : List ℕ} {x : TreePath} {n : ℕ} {all : tree.Patterns applied} {ps qs : List Pattern} {gs hs : List Nested} → ReadAll files u x n all ps gs
+    pub all_one : {u : List ℕ} {x : TreePath} {n : ℕ} {all : tree.PatternsAt applied} {ps qs : List Pattern} {gs hs : List Nested} → ReadAll files u x n all ps gs
         → ReadAll files u x n all qs hs → (ps ≡ qs) × (gs ≡ hs)
     all_one none_are none_are = (refl, refl)
     all_one (more_are d ds p) (more_are e es q) =
@@ -67,7 +67,7 @@ module _ (files : List ℕ → Option FileTree) where
         (ap₂ (λ p ps. p ∷ ps) i.0 j.0, p ∙ ap₂ (λ a b. a ++ b) i.1 j.1 ∙ sym q)
 
   -- components are gathered in only one way
-  pub one_gathering : {u : List ℕ} {x : TreePath} {n : ℕ} {cs : tree.Components applied} {all more : List Gathered} → Gathers files u x n cs all
+  pub one_gathering : {u : List ℕ} {x : TreePath} {n : ℕ} {cs : tree.ComponentsAt applied} {all more : List Gathered} → Gathers files u x n cs all
       → Gathers files u x n cs more → all ≡ more
   one_gathering nothing nothing = refl
   one_gathering (a_start d ds) (a_start {m = m} e es) =
@@ -85,7 +85,7 @@ module _ (files : List ℕ → Option FileTree) where
       p ∙ ap₂ (λ a b. a ++ b) k (one_gathering r s) ∙ sym q
 
   module _ (main : FileTree) where
-    at_grammar : (s t : Schema) → IsSchemaOf files main s → IsSchemaOf files main t → (x : Place) (o : Option Place) (u : List ℕ) (cs : tree.Components applied)
+    at_grammar : (s t : Schema) → IsSchemaOf files main s → IsSchemaOf files main t → (x : Place) (o : Option Place) (u : List ℕ) (cs : tree.ComponentsAt applied)
         → HasGrammar files main x o u cs → (s.components x ≡ t.components x) × (s.outer x ≡ t.outer x)
     at_grammar s t a b x o u cs h =
         let i = a.there x o u cs h in

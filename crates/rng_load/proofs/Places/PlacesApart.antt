@@ -152,7 +152,7 @@ module _ (test : Gathered → Bool) where
 module _ (files : List ℕ → Option FileTree) where
   mutual
     -- the grammars that are nested in a pattern are at its place or at extensions of it
-    pub nested_inside : {u : List ℕ} {x : TreePath} {a : tree.Pattern applied} {p : Pattern} {gs : List Nested} → Reads files u x a p gs → Inside x gs
+    pub nested_inside : {u : List ℕ} {x : TreePath} {a : tree.PatternAt applied} {p : Pattern} {gs : List Nested} → Reads files u x a p gs → Inside x gs
     nested_inside (element_is d) = inside_of (first_child (nested_inside d))
     nested_inside (attribute_is d) = inside_of (first_child (nested_inside d))
     nested_inside (list_is d) = inside_of (first_child (nested_inside d))
@@ -174,13 +174,13 @@ module _ (files : List ℕ → Option FileTree) where
     nested_inside (joined_is d) = inside_of (nested_children d)
 
     -- the grammars that are nested in these patterns are at their places or at extensions of them
-    pub nested_children : {u : List ℕ} {x : TreePath} {k : ℕ} {all : tree.Patterns applied} {ps : List Pattern} {gs : List Nested}
+    pub nested_children : {u : List ℕ} {x : TreePath} {k : ℕ} {all : tree.PatternsAt applied} {ps : List Pattern} {gs : List Nested}
         → ReadAll files u x k all ps gs → Children x k gs
     nested_children none_are = no_children _ _
     nested_children (more_are {u} {x} {n = k} d ds e) = subst (Children x k) (sym e) (more_children (nested_inside d) (nested_children ds))
 
   -- the grammars that are nested in the components of a grammar are at its children or at extensions of them
-  pub gathered_children : {u : List ℕ} {x : TreePath} {k : ℕ} {cs : tree.Components applied} {all : List Gathered} → Gathers files u x k cs all
+  pub gathered_children : {u : List ℕ} {x : TreePath} {k : ℕ} {cs : tree.ComponentsAt applied} {all : List Gathered} → Gathers files u x k cs all
       → Children x k (nested_in all)
   gathered_children nothing = no_children _ _
   gathered_children (a_start d ds) = more_children (nested_inside d) (gathered_children ds)

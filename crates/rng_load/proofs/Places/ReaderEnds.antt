@@ -26,7 +26,7 @@ use Rattle.rng_load.proofs.Places.OneGrammar.{main_there}
 
 module _ (files : List ℕ → Option FileTree) where
   -- a main file that is no grammar has one component
-  pub only_start : (p : tree.Pattern applied) → gathered_at files [] [] (tree.component_and (tree.start methods.Plain p) tree.no_components)
+  pub only_start : (p : tree.PatternAt applied) → gathered_at files [] [] (tree.component_and (tree.start methods.Plain p) tree.no_components)
       ≡ gathered_as None methods.Plain (read_at files path_limit [] (0 ∷ []) p) ∷ []
   unfolding gather_with gather_one_with
   only_start p = refl

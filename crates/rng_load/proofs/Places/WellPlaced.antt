@@ -59,7 +59,7 @@ module _ (files : List ℕ → Option FileTree) {z : Place} where
   -- ---- a grammar that is written in a pattern is nested there
 
   mutual
-    nested_read : {u : List ℕ} {x : TreePath} {a : tree.Pattern applied} {p : Pattern} {gs : List Nested} → Reads files u x a p gs → IsWrittenIn (grammar z) p
+    nested_read : {u : List ℕ} {x : TreePath} {a : tree.PatternAt applied} {p : Pattern} {gs : List Nested} → Reads files u x a p gs → IsWrittenIn (grammar z) p
         → IsNestedAt z gs
     nested_read (element_is d) (in_element w) = nested_read d w
     nested_read (attribute_is d) (in_attribute w) = nested_read d w
@@ -81,14 +81,14 @@ module _ (files : List ℕ → Option FileTree) {z : Place} where
     nested_read (grammar_file_is f) (in_external itself) = (_, here, refl)
     nested_read (joined_is {k = k} {ps = ps} d) w = nested_among d (among_members k ps w)
 
-    nested_among : {u : List ℕ} {x : TreePath} {n : ℕ} {all : tree.Patterns applied} {ps : List Pattern} {gs : List Nested} → ReadAll files u x n all ps gs
+    nested_among : {u : List ℕ} {x : TreePath} {n : ℕ} {all : tree.PatternsAt applied} {ps : List Pattern} {gs : List Nested} → ReadAll files u x n all ps gs
         → IsWrittenAmong (grammar z) (pattern_list ps) → IsNestedAt z gs
     nested_among none_are w = elim w [ ]
     nested_among (more_are {gs = gs} {hs} d ds e) (in_this w) = let i = nested_read d w in (i.0, subst (Among i.0) (sym e) (in_left i.1 hs), i.2)
     nested_among (more_are {gs = gs} {hs} d ds e) (in_later w) = let i = nested_among ds w in (i.0, subst (Among i.0) (sym e) (in_right gs i.1), i.2)
 
   -- so is a grammar that is written in a component
-  nested_gathered : {u : List ℕ} {x : TreePath} {n : ℕ} {cs : tree.Components applied} {all : List Gathered} {g : Gathered} → Gathers files u x n cs all
+  nested_gathered : {u : List ℕ} {x : TreePath} {n : ℕ} {cs : tree.ComponentsAt applied} {all : List Gathered} {g : Gathered} → Gathers files u x n cs all
       → Among g all → IsWrittenIn (grammar z) g.component.pattern → IsNestedAt z g.nested
   nested_gathered nothing i w = absurd (in_none i)
   nested_gathered (a_start d ds) here w = nested_read d w
@@ -116,7 +116,7 @@ module _ (files : List ℕ → Option FileTree) (main : FileTree) (s : Schema) (
   abbrev IsNestedIn : Place → Place → Type 0
   IsNestedIn x z = (cs : List Component) × (s.components z ≡ Some cs) × (s.outer z ≡ Some x)
 
-  nested_at : (x z : Place) (o : Option Place) (u : List ℕ) (cs : tree.Components applied) (all : List Gathered) (g : Gathered) → HasGrammar files main x o u cs
+  nested_at : (x z : Place) (o : Option Place) (u : List ℕ) (cs : tree.ComponentsAt applied) (all : List Gathered) (g : Gathered) → HasGrammar files main x o u cs
       → Gathers files u x 0 cs all → Among g all → IsNestedAt z g.nested → IsNestedIn x z
   nested_at x z o u cs all g h d i n =
       let t = is.there n.0.place (Some x) n.0.uri n.0.components (nested_is h d i n.1) in

@@ -19,7 +19,7 @@ no_names = record { defines = []; has_start = false; included = [] }
 
 abbrev mutual
   -- the names together with those of a component
-  pub gather_component : Names → tree.Component applied → Names
+  pub gather_component : Names → tree.ComponentAt applied → Names
   gather_component ns (tree.start m p) = record { defines = ns.defines; has_start = true; included = ns.included }
   gather_component ns (tree.define n m p) = record { defines = with_name ns.defines n; has_start = ns.has_start; included = ns.included }
   gather_component ns (tree.div cs) = gather ns cs
@@ -27,12 +27,12 @@ abbrev mutual
       gather (record { defines = ns.defines; has_start = ns.has_start; included = with_name ns.included m.href }) over
 
   -- the names together with those of components
-  pub gather : Names → tree.Components applied → Names
+  pub gather : Names → tree.ComponentsAt applied → Names
   gather ns tree.no_components = ns
   gather ns (tree.component_and c cs) = gather (gather_component ns c) cs
 
 -- the names together with those of components, if there are any
-abbrev pub gather_if : Names → Option (tree.Components applied) → Names
+abbrev pub gather_if : Names → Option (tree.ComponentsAt applied) → Names
 gather_if ns None = ns
 gather_if ns (Some cs) = gather ns cs
 

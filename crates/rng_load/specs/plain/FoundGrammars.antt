@@ -50,7 +50,7 @@ places_left left = map (λ p. p.nested.place) left
 
 module _ (files : List ℕ → Option FileTree) where
   -- the components of the grammar at this place, in a file that inherits this namespace
-  abbrev pub gathered_at : List ℕ → Place → tree.Components applied → List Gathered
+  abbrev pub gathered_at : List ℕ → Place → tree.ComponentsAt applied → List Gathered
   gathered_at u x cs = gather_at files path_limit u x 0 cs
 
   module _ (main : FileTree) where
@@ -61,14 +61,14 @@ module _ (files : List ℕ → Option FileTree) where
     -- this is the grammar at the place
     pub record IsGrammarAt (x : Place) (g : PlacedGrammar) : Type 0 where
       pub uri : List ℕ
-      pub components : tree.Components applied
+      pub components : tree.ComponentsAt applied
       pub there : HasGrammar files main x g.outer uri components
       pub are : g.components ≡ map (λ c. c.component) (gathered_at uri x components)
 
     -- the place has a grammar with these components, and `o` is the place of the grammar around it
     pub record HasGathered (x : Place) (o : Option Place) (all : List Gathered) : Type 0 where
       pub uri : List ℕ
-      pub components : tree.Components applied
+      pub components : tree.ComponentsAt applied
       pub there : HasGrammar files main x o uri components
       pub are : all ≡ gathered_at uri x components
 
@@ -80,6 +80,6 @@ module _ (files : List ℕ → Option FileTree) where
     -- it is found, or left.
     pub record AreFound (gs : PlacedGrammars) (left : List Place) : Type 0 where
       pub main_known : IsKnown gs left []
-      pub nested_known : (x : Place) → IsFound x gs → (o : Option Place) (u : List ℕ) (cs : tree.Components applied) → HasGrammar files main x o u cs
+      pub nested_known : (x : Place) → IsFound x gs → (o : Option Place) (u : List ℕ) (cs : tree.ComponentsAt applied) → HasGrammar files main x o u cs
           → (n : Nested) → Among n (nested_in (gathered_at u x cs)) → IsKnown gs left n.place
       pub right : (e : Place × PlacedGrammar) → Among e gs → IsGrammarAt e.0 e.1

@@ -10,7 +10,7 @@ use Rattle.rng_load.specs.plain.PlainReading.{gather_at, replaced_by}
 pub data AtEnd : Type 0 where
   nothing : AtEnd
   -- what is gathered before the include, where its braces are read, and the components in these
-  braces : List Gathered → ℕ → List ℕ → List (tree.Component applied) → AtEnd
+  braces : List Gathered → ℕ → List ℕ → List (tree.ComponentAt applied) → AtEnd
   -- what is gathered before the include, and the components of the included file
   override : List Gathered → List Gathered → AtEnd
 
@@ -20,7 +20,7 @@ pub record OpenList : Type 0 where
   pub levels : ℕ
   pub uri : List ℕ
   pub number : ℕ
-  pub left : List (tree.Component applied)
+  pub left : List (tree.ComponentAt applied)
   pub at_end : AtEnd
 
 -- one list is open, with nothing to do at its end

@@ -16,7 +16,7 @@ pub record Open : Type 0 where
   pub levels : ℕ
   pub uri : List ℕ
   pub number : ℕ
-  pub left : List (tree.Pattern applied)
+  pub left : List (tree.PatternAt applied)
 
 -- the trees of the files by name
 abbrev pub Files : Type 0

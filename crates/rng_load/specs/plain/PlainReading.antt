@@ -17,19 +17,19 @@ use Rattle.rnc_model.specs.loading.Places.{TreePath, Nested, Gathered, is_overri
 -- a pattern of a file that inherits a namespace, at a way: the pattern of the schema, and the grammars that are nested
 -- in it
 abbrev pub PatternReader : Type 0
-PatternReader = List ℕ → TreePath → tree.Pattern applied → Pattern × List Nested
+PatternReader = List ℕ → TreePath → tree.PatternAt applied → Pattern × List Nested
 
 -- The components that these add to their grammar, in a file that inherits a namespace. The first is the child of the
 -- way with this number.
 abbrev pub Gatherer : Type 0
-Gatherer = List ℕ → TreePath → ℕ → tree.Components applied → List Gathered
+Gatherer = List ℕ → TreePath → ℕ → tree.ComponentsAt applied → List Gathered
 
 -- what was read, inside a pattern that adds no nested grammars
 abbrev pub within : (Pattern → Pattern) → Pattern × List Nested → Pattern × List Nested
 within make r = (make r.0, r.1)
 
 -- a grammar that is nested at this way
-abbrev pub nested_here : TreePath → List ℕ → tree.Components applied → List Nested
+abbrev pub nested_here : TreePath → List ℕ → tree.ComponentsAt applied → List Nested
 nested_here x u cs = record { place = x; uri = u; components = cs } ∷ []
 
 -- an external of this file, which inherits this namespace
@@ -39,7 +39,7 @@ external_with below v x (Some (pattern_file a)) = within pattern.external (below
 external_with below v x (Some (grammar_file cs)) = (pattern.external (pattern.grammar x), nested_here x v cs)
 
 -- the components of an included file, which inherits this namespace, if it is a grammar
-unfoldable pub included_with : Gatherer → List ℕ → TreePath → Option (tree.Components applied) → List Gathered
+unfoldable pub included_with : Gatherer → List ℕ → TreePath → Option (tree.ComponentsAt applied) → List Gathered
 included_with below v x None = []
 included_with below v x (Some is) = below v (0 ∷ x) 0 is
 
@@ -55,7 +55,7 @@ module _ (files : List ℕ → Option FileTree) where
   -- patterns; the reader reads those of mentioned files, one level down
   module _ (below : PatternReader) where
     unfoldable mutual
-      pub read_with : List ℕ → TreePath → tree.Pattern applied → Pattern × List Nested
+      pub read_with : List ℕ → TreePath → tree.PatternAt applied → Pattern × List Nested
       read_with u x (tree.element c a) = within (pattern.element (class_in u c)) (read_with u (0 ∷ x) a)
       read_with u x (tree.attribute c a) = within (pattern.attribute (class_in u c)) (read_with u (0 ∷ x) a)
       read_with u x (tree.list a) = within pattern.list (read_with u (0 ∷ x) a)
@@ -75,7 +75,7 @@ module _ (files : List ℕ → Option FileTree) where
       read_with u x (tree.grammar cs) = (pattern.grammar x, nested_here x u cs)
       read_with u x (tree.joined k all) = let r = read_all_with u x 0 all in (joined_members k r.0, r.1)
 
-      pub read_all_with : List ℕ → TreePath → ℕ → tree.Patterns applied → List Pattern × List Nested
+      pub read_all_with : List ℕ → TreePath → ℕ → tree.PatternsAt applied → List Pattern × List Nested
       read_all_with u x n tree.no_patterns = ([], [])
       read_all_with u x n (tree.pattern_and a all) =
           let r = read_with u (n ∷ x) a in
@@ -85,11 +85,11 @@ module _ (files : List ℕ → Option FileTree) where
   -- components; the gatherer gathers those of included files, one level down
   module _ (read : PatternReader) (below : Gatherer) where
     unfoldable mutual
-      pub gather_with : List ℕ → TreePath → ℕ → tree.Components applied → List Gathered
+      pub gather_with : List ℕ → TreePath → ℕ → tree.ComponentsAt applied → List Gathered
       gather_with u x n tree.no_components = []
       gather_with u x n (tree.component_and c cs) = gather_one_with u (n ∷ x) c ++ gather_with u x (n + 1) cs
 
-      pub gather_one_with : List ℕ → TreePath → tree.Component applied → List Gathered
+      pub gather_one_with : List ℕ → TreePath → tree.ComponentAt applied → List Gathered
       gather_one_with u x (tree.start m a) = gathered_as None m (read u x a) ∷ []
       gather_one_with u x (tree.define y m a) = gathered_as (Some y) m (read u x a) ∷ []
       gather_one_with u x (tree.div is) = gather_with u x 0 is
@@ -110,7 +110,7 @@ module _ (files : List ℕ → Option FileTree) where
   read_mention n u x m = external_with (read_below n) (uri_in u m.inherit) x (files m.href)
 
   -- patterns in order; the first is the child with this number
-  abbrev pub read_all_at : ℕ → List ℕ → TreePath → ℕ → tree.Patterns applied → List Pattern × List Nested
+  abbrev pub read_all_at : ℕ → List ℕ → TreePath → ℕ → tree.PatternsAt applied → List Pattern × List Nested
   read_all_at n = read_all_with (read_below n)
 
   -- the result of an include, with this many levels left
@@ -123,7 +123,7 @@ module _ (files : List ℕ → Option FileTree) where
   gather_at n = gather_with (read_at n) (gather_below n)
 
   -- what one component adds
-  abbrev pub gather_one_at : ℕ → List ℕ → TreePath → tree.Component applied → List Gathered
+  abbrev pub gather_one_at : ℕ → List ℕ → TreePath → tree.ComponentAt applied → List Gathered
   gather_one_at n = gather_one_with (read_at n) (gather_below n)
 
   -- ---- what can be read
@@ -131,7 +131,7 @@ module _ (files : List ℕ → Option FileTree) where
   -- the file suits the mention: an included file is a grammar
   abbrev pub Serves : FileTree → MentionedFile → Type 0
   Serves t (external_file m) = Unit {0}
-  Serves t (included_file m over) = (is : tree.Components applied) × (grammar_components t ≡ Some is)
+  Serves t (included_file m over) = (is : tree.ComponentsAt applied) × (grammar_components t ≡ Some is)
 
   -- the mention can be followed for n levels: its file exists and suits it, and what the file mentions can be followed
   -- for one level less
@@ -144,9 +144,9 @@ module _ (files : List ℕ → Option FileTree) where
   AreFollowed n ms = (m : MentionedFile) → Among m ms → IsFollowed n m
 
   -- the pattern can be read with n levels
-  abbrev pub IsReadable : ℕ → tree.Pattern applied → Type 0
+  abbrev pub IsReadable : ℕ → tree.PatternAt applied → Type 0
   IsReadable n a = AreFollowed n (mentions_of_pattern a)
 
   -- the components can be read with n levels
-  abbrev pub AreReadable : ℕ → tree.Components applied → Type 0
+  abbrev pub AreReadable : ℕ → tree.ComponentsAt applied → Type 0
   AreReadable n cs = AreFollowed n (mentions_of_components cs)

@@ -1,7 +1,8 @@
 -- What the call that loads the files of a schema returns.
 use Rattle.std.specs.Prelude.{List, Result, Ok, Err, IfSome}
 use Rattle.rng_model.specs.declared.fault.SchemaFault.{SchemaFault}
-use Rattle.rnc_model.specs.loading.Loading.{TakenFiles, are_taken, FilesHaveOnlyVerdict, verdict_of_fault}
+use Rattle.rnc_model.specs.loading.Loading.{TakenFiles, are_taken, FilesHaveOnlyVerdict}
+use Rattle.rnc_model.specs.loading.FileVerdicts.{verdict_of_fault}
 use Rattle.rng_load.specs.views.PlacedGrammars.{schema_of}
 use Rattle.rnc_model.specs.loading.SchemaFile.{FileName, NamedFile}
 use Rattle.rng_load.specs.declared.schema.Schema.{Schema}

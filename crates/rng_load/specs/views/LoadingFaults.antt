@@ -6,11 +6,12 @@ use Rattle.rng_model.specs.declared.fault.SchemaFault.{SchemaFault}
 use Rattle.rnc_grammar.specs.declared.file_tree.FileTree as declared
 use Rattle.rnc_grammar.specs.views.View.{file_of}
 use Rattle.rng_load.specs.views.FilesView.{taken_files_of}
-use Rattle.rnc_model.specs.loading.Loading.{FilesVerdict, file_breaks, together_break, are_taken, AreTaken, IsFirstBroken, verdict_of_fault}
+use Rattle.rnc_model.specs.loading.Loading.{FilesVerdict, file_breaks, together_break, are_taken, AreTaken, IsFirstBroken}
+use Rattle.rnc_model.specs.loading.FileVerdicts.{verdict_of_fault, breaks, has_tree}
+use Rattle.rng_load.specs.views.FileVerdicts.{FileHasOnlyVerdict}
 use Rattle.rng_load.specs.declared.fault.ReadingFault.{ReadingFault}
 use Rattle.rng_load.specs.declared.fault.ReadingFault.TheVariants as readings
 use Rattle.rnc_model.specs.loading.SchemaFile.{FileName, NamedFile}
-use Rattle.rnc_model.specs.loading.FileVerdicts.{breaks, has_tree, FileHasOnlyVerdict}
 
 -- the verdict that is reported if not all files can be read
 abbrev pub verdict_of_reading : ReadingFault → Option FilesVerdict

@@ -16,7 +16,7 @@ use Rattle.rng_load.specs.declared.pattern_rows.PatternRows.{PatternRows}
 use Rattle.rng_load.specs.plain.OpenPatterns.{Files, Made, Open, left_at}
 use Rattle.rng_load.specs.views.ReadPatterns.{nested_of}
 
-abbrev pub children_of : Children → List (tree.Pattern applied)
+abbrev pub children_of : Children → List (tree.PatternAt applied)
 children_of (children.One p) = pattern_of p.now ∷ []
 children_of (children.All ps) = map pattern_of ps.now
 

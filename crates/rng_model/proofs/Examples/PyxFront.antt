@@ -14,8 +14,8 @@ use Rattle.rng_model.specs.documents.PyxNamespaces as namespaces
 use Rattle.rng_model.specs.documents.PyxTrees.{IsRun, no_run}
 use Rattle.rng_model.specs.documents.PyxTrees as trees
 use Rattle.rng_model.specs.documents.PyxClauses as clauses
-use Rattle.rng_model.specs.documents.PyxClauses.{BreaksBetween, BreaksHere, BreaksNamespaces, RepeatsName, EndsWithTag, AreOpenTags, Tag}
-use Rattle.rng_model.specs.documents.PyxClauses.{IsFront}
+use Rattle.rng_model.specs.documents.PyxClauses.{BreaksBetween, BreaksHere, BreaksTagNamespaces, RepeatsName, EndsWithTag, AreOpenTags, Tag}
+use Rattle.rng_model.specs.documents.Documents.{IsFront}
 use Rattle.rng_model.proofs.Examples.Pyx.{whole, good, a_is_a_name, first_of}
 
 abbrev the_line : Line
@@ -93,7 +93,7 @@ name_of_tag e (says_start i) = without_a_prefix (name_behind (sym e)) i
 nothing_declared : {ds : List NamespaceDeclaration} {others : List WrittenAttribute} → AreParted [] ds others → (ds ≡ []) × (others ≡ [])
 nothing_declared namespaces.nothing = (refl, refl)
 
-no_namespace_broken : {outer : NamespaceScope} {name : QName} → name.prefix ≡ None → ¬ (BreaksNamespaces outer name [])
+no_namespace_broken : {outer : NamespaceScope} {name : QName} → name.prefix ≡ None → ¬ (BreaksTagNamespaces outer name [])
 no_namespace_broken e (clauses.forbidden p i f) = among_none (nothing_declared p).0 i where
   among_none : {d : NamespaceDeclaration} {ds : List NamespaceDeclaration} → ds ≡ [] → ¬ (Among d ds)
   among_none e i = elim_none (subst (Among _) e i) where
@@ -153,7 +153,7 @@ breaks_nothing_between (clauses.second_root front rest root k o e h) = nothing_b
 breaks_nothing_between (clauses.attributes k t m) = no_kind 65 (λ e. omega (arith, e)) k
 breaks_nothing_between (clauses.elements k o m) = let n = few_are_open o in omega (arith, n, m)
 breaks_nothing_between (clauses.joined_text t m) = let n = text_length t.front t.run t.parts t.good t.is_run in omega (arith, n, m)
-breaks_nothing_between (clauses.namespaces t o b) = no_namespace_broken (no_prefix t) (subst (BreaksNamespaces _ _) (no_attributes t) b)
+breaks_nothing_between (clauses.namespaces t o b) = no_namespace_broken (no_prefix t) (subst (BreaksTagNamespaces _ _) (no_attributes t) b)
 breaks_nothing_between (clauses.repeated_name t o b) = no_name_repeated (subst (RepeatsName _) (no_attributes t) b)
 
 breaks_nothing_here : {clause : ℕ} → ¬ (BreaksHere [] the_line [] clause)

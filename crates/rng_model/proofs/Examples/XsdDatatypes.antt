@@ -9,7 +9,7 @@ use Rattle.rng_model.specs.xsd.Numbers.{integer_of, count_of}
 use Rattle.rng_model.specs.xsd.Facets.{written_lengths}
 use Rattle.rng_model.specs.xsd.Limits.{written_limits}
 use Rattle.rng_model.specs.regexes.Patterns.{patterns_of}
-use Rattle.rng_model.specs.xsd.Datatypes.{meaning_named}
+use Rattle.rng_model.specs.plain.NamedTypes.{meaning_named}
 
 abbrev allows : List ℕ → List Parameter → List ℕ → Bool
 allows name ps s = known_allows (meaning_named name ps) s

@@ -8,7 +8,7 @@ use Rattle.std.specs.Str.{chars}
 use Rattle.rng_model.specs.simple.Tree.{Datatype}
 use Rattle.rng_model.specs.names.Names.{is_name_char, is_ncname}
 use Rattle.rng_model.specs.datatypes.Texts.{TextTests, collapse, pieces, Value, text, truth, are_equal, text_if}
-use Rattle.rng_model.specs.datatypes.Facets.{Lengths, Bounds, fits, number_inside, truth_of, integer_of, length_of, bound_of, Parameter, named, written_range}
+use Rattle.rng_model.specs.datatypes.Facets.{Lengths, Bounds, fits, number_inside, truth_of, short_integer_of, length_of, short_bound_of, Parameter, named, written_range}
 
 -- ---- which value a text has, in each type: all types except `string` collapse the text first (XML Schema Part 2,
 -- section 4.3.6)
@@ -44,7 +44,7 @@ abbrev pub xsd_boolean : List ℕ → Option Value
 xsd_boolean s = option_map truth (truth_of (collapse s))
 
 abbrev pub xsd_integer : Bounds → List ℕ → Option Value
-xsd_integer b s = number_inside b (integer_of (collapse s))
+xsd_integer b s = number_inside b (short_integer_of (collapse s))
 
 -- ---- the table
 
@@ -58,12 +58,12 @@ without meaning [] = Some meaning
 without meaning (p ∷ ps) = None
 
 -- the type takes `minLength` and `maxLength` (sections 4.3.2 and 4.3.3)
-abbrev pub with_lengths : (Lengths → Meaning) → List Parameter → Option Meaning
-with_lengths meaning ps = option_map meaning (written_range length_of (codes "minLength") (codes "maxLength") ps)
+abbrev pub with_short_lengths : (Lengths → Meaning) → List Parameter → Option Meaning
+with_short_lengths meaning ps = option_map meaning (written_range length_of (codes "minLength") (codes "maxLength") ps)
 
 -- the type takes `minInclusive` and `maxInclusive` (sections 4.3.7 and 4.3.10)
 abbrev pub with_bounds : (Bounds → Meaning) → List Parameter → Option Meaning
-with_bounds meaning ps = option_map meaning (written_range bound_of (codes "minInclusive") (codes "maxInclusive") ps)
+with_bounds meaning ps = option_map meaning (written_range short_bound_of (codes "minInclusive") (codes "maxInclusive") ps)
 
 -- the library that is built into RELAX NG (RELAX NG Specification, section 6.2.9)
 abbrev pub plain_types : List (List ℕ × Maker)
@@ -72,10 +72,10 @@ plain_types = (codes "string", without plain_string) ∷ (codes "token", without
 -- the library of XML Schema
 abbrev pub xsd_types : List (List ℕ × Maker)
 xsd_types =
-    (codes "string", with_lengths xsd_string) ∷
-    (codes "token", with_lengths xsd_token) ∷
-    (codes "NCName", with_lengths xsd_ncname) ∷
-    (codes "NMTOKEN", with_lengths xsd_nmtoken) ∷
+    (codes "string", with_short_lengths xsd_string) ∷
+    (codes "token", with_short_lengths xsd_token) ∷
+    (codes "NCName", with_short_lengths xsd_ncname) ∷
+    (codes "NMTOKEN", with_short_lengths xsd_nmtoken) ∷
     (codes "boolean", without xsd_boolean) ∷
     (codes "integer", with_bounds xsd_integer) ∷ []
 

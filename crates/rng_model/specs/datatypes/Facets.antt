@@ -29,8 +29,8 @@ abbrev pub most_digits : ℕ
 most_digits = 38
 
 -- the number that a text writes: an optional sign, and digits (section 3.3.13)
-unfoldable pub integer_of : List ℕ → Option ℤ
-integer_of s = if is_decimal most_digits (without_leading_sign s) then Some (signed_digits_value 10 s) else None
+unfoldable pub short_integer_of : List ℕ → Option ℤ
+short_integer_of s = if is_decimal most_digits (without_leading_sign s) then Some (signed_digits_value 10 s) else None
 
 -- the greatest number of digits of a length
 abbrev pub most_length_digits : ℕ
@@ -41,8 +41,8 @@ unfoldable pub length_of : List ℕ → Option ℕ
 length_of s = if is_decimal most_length_digits s then Some (digits_value 10 s) else None
 
 -- the bound that a text writes: the value of the text in `integer` (sections 4.3.7 and 4.3.10)
-abbrev pub bound_of : List ℕ → Option ℤ
-bound_of s = integer_of (collapse s)
+abbrev pub short_bound_of : List ℕ → Option ℤ
+short_bound_of s = short_integer_of (collapse s)
 
 -- ---- bounds (sections 4.3.2, 4.3.3, 4.3.7 and 4.3.10)
 
@@ -98,16 +98,16 @@ abbrev pub is_once : List ℕ → List Parameter → Bool
 is_once name ps = nat_le (count_by (is_named name) ps) 1
 
 -- the parameter has one of two names, and a value that can be read
-abbrev pub is_facet : {A : Type 0} → (List ℕ → Option A) → List ℕ → List ℕ → Parameter → Bool
-is_facet read least greatest p = (is_named least p || is_named greatest p) && is_some (read p.1)
+abbrev pub is_range_facet : {A : Type 0} → (List ℕ → Option A) → List ℕ → List ℕ → Parameter → Bool
+is_range_facet read least greatest p = (is_named least p || is_named greatest p) && is_some (read p.1)
 
 -- each parameter is one of these, and none occurs twice
-abbrev pub are_facets : {A : Type 0} → (List ℕ → Option A) → List ℕ → List ℕ → List Parameter → Bool
-are_facets read least greatest ps = (list_all (is_facet read least greatest) ps && is_once least ps) && is_once greatest ps
+abbrev pub are_range_facets : {A : Type 0} → (List ℕ → Option A) → List ℕ → List ℕ → List Parameter → Bool
+are_range_facets read least greatest ps = (list_all (is_range_facet read least greatest) ps && is_once least ps) && is_once greatest ps
 
 -- then these are the bounds that they write
 unfoldable pub written_range : {A : Type 0} → (List ℕ → Option A) → List ℕ → List ℕ → List Parameter → Option (Range A)
 written_range read least greatest ps =
-    if are_facets read least greatest ps
+    if are_range_facets read least greatest ps
     then Some (record { least = option_and_then read (named least ps); greatest = option_and_then read (named greatest ps) })
     else None

@@ -1,8 +1,19 @@
 -- What the bytes of a document are, and which events are reported of bytes that are no document.
-use Rattle.std.specs.Prelude.{◌≡◌, ◌≤◌, ℕ, List, ◌++◌, All}
+use Rattle.std.specs.Prelude.{◌≡◌, ◌≤◌, ℕ, List, ◌++◌, All, length}
 use Rattle.rng_model.specs.documents.Lines.{Line, lines, Fault}
 use Rattle.rng_model.specs.documents.PyxTrees.{Placed, Event, events_of, IsPyxDocument}
-use Rattle.rng_model.specs.documents.PyxClauses.{IsFirstFault, HasLongestFront}
+use Rattle.rng_model.specs.documents.PyxClauses.{IsFirstFault, Breaks}
+
+-- the lines break no clause except P13, so more lines may make them a document
+abbrev pub IsFront : List Line → Type 0
+IsFront ls = (f : Fault) → Breaks ls f → f.clause ≡ 13
+
+-- the longest front of all lines that breaks no clause except P13
+pub record HasLongestFront (all front : List Line) : Type 0 where
+  pub rest : List Line
+  pub parts : all ≡ front ++ rest
+  pub is_front : IsFront front
+  pub longest : (more others : List Line) → all ≡ more ++ others → IsFront more → length more ≤ length front
 
 -- there is a document that begins with these lines, and its events begin with these events
 pub record BeginsDocument (front : List Line) (sent : List Event) : Type 0 where

@@ -44,13 +44,13 @@ pub data HasScope : List Tag → NamespaceScope → Type 0 where
       SaysTag tag name written → AreParted written ds others → HasScope outer scope → HasScope (tag ∷ outer) (ds ∷ scope)
 
 -- P11, for such a tag inside this scope: a declaration is not allowed, or a prefix is not declared
-pub data BreaksNamespaces (outer : NamespaceScope) (name : QName) (written : List WrittenAttribute) : Type 0 where
+pub data BreaksTagNamespaces (outer : NamespaceScope) (name : QName) (written : List WrittenAttribute) : Type 0 where
   forbidden : {ds : List NamespaceDeclaration} {others : List WrittenAttribute} {d : NamespaceDeclaration} → AreParted written ds others → Among d ds → IsForbidden d
-      → BreaksNamespaces outer name written
+      → BreaksTagNamespaces outer name written
   element_prefix : {ds : List NamespaceDeclaration} {others : List WrittenAttribute} {p : List ℕ} → AreParted written ds others → name.prefix ≡ Some p
-      → HasNoNamespace (ds ∷ outer) p → BreaksNamespaces outer name written
+      → HasNoNamespace (ds ∷ outer) p → BreaksTagNamespaces outer name written
   attribute_prefix : {ds : List NamespaceDeclaration} {others : List WrittenAttribute} {a : WrittenAttribute} {p : List ℕ} → AreParted written ds others
-      → Among a others → a.name.prefix ≡ Some p → HasNoNamespace (ds ∷ outer) p → BreaksNamespaces outer name written
+      → Among a others → a.name.prefix ≡ Some p → HasNoNamespace (ds ∷ outer) p → BreaksTagNamespaces outer name written
 
 -- P12, for such a tag: two `A` lines have the same name, or two attributes have the same expanded name
 pub data RepeatsName (outer : NamespaceScope) (written : List WrittenAttribute) : Type 0 where
@@ -97,7 +97,7 @@ pub data BreaksBetween (before : List Line) (l : Line) (behind : List Line) : �
   joined_text : {joined : List ℕ} → EndsInText (before ++ l ∷ []) joined → text_limit < length joined → BreaksBetween before l behind 10
   -- P11 and P12: by the tag that ends here
   namespaces : {outer : NamespaceScope} {name : QName} {written : List WrittenAttribute} → EndsWithTag (before ++ l ∷ []) outer name written
-      → BeginsOtherwise 65 behind → BreaksNamespaces outer name written → BreaksBetween before l behind 11
+      → BeginsOtherwise 65 behind → BreaksTagNamespaces outer name written → BreaksBetween before l behind 11
   repeated_name : {outer : NamespaceScope} {name : QName} {written : List WrittenAttribute} → EndsWithTag (before ++ l ∷ []) outer name written
       → BeginsOtherwise 65 behind → RepeatsName outer written → BreaksBetween before l behind 12
 
@@ -118,14 +118,3 @@ pub data Breaks (all : List Line) : Fault → Type 0 where
 pub record IsFirstFault (all : List Line) (f : Fault) : Type 0 where
   pub broken : Breaks all f
   pub least : (g : Fault) → Breaks all g → IsBefore f g
-
--- the lines break no clause except P13, so more lines may make them a document
-abbrev pub IsFront : List Line → Type 0
-IsFront ls = (f : Fault) → Breaks ls f → f.clause ≡ 13
-
--- the longest front of all lines that breaks no clause except P13
-pub record HasLongestFront (all front : List Line) : Type 0 where
-  pub rest : List Line
-  pub parts : all ≡ front ++ rest
-  pub is_front : IsFront front
-  pub longest : (more others : List Line) → all ≡ more ++ others → IsFront more → length more ≤ length front

@@ -1,11 +1,13 @@
--- The outcome of a document, and its line (RELAX NG Specification, sections 6.2 and 6.3).
+-- The outcome of a document, and its line, whatever the document is read from (RELAX NG Specification, sections 6.2 and
+-- 6.3).
 use Rattle.std.specs.Prelude.{◌≡◌, ⊤, ℕ, List, [], ◌∷◌, ◌++◌, All}
 use Rattle.rng_model.specs.names.Names.{NameClass, In}
 use Rattle.rng_model.specs.matching.GrammarMatching.{IsValidBy, Reading}
 use Rattle.rng_model.specs.simple.Grammar.{Grammar}
 use Rattle.rng_model.specs.restrictions.Restrictions.{ClassIn}
 use Rattle.rng_model.specs.datatypes.Texts.{texts_of}
-use Rattle.rng_model.specs.documents.PyxTrees.{Event, EventKind, a_start, a_string, an_end, Placed, item_of, events_of, IsPyxDocument}
+use Rattle.rng_model.specs.documents.ElementTrees.{IsElementTree}
+use Rattle.rng_model.specs.documents.PyxTrees.{Event, EventKind, a_start, a_string, an_end, Placed, item_of, events_of}
 use Rattle.rng_model.specs.declared.outcome.Outcome.{Outcome}
 use Rattle.rng_model.specs.declared.outcome.Outcome.TheVariants as outcome
 
@@ -20,7 +22,7 @@ IsValidByReading g d = IsValidBy g.grammar (texts_of g.tests) (item_of d)
 
 -- no document that begins with these events is valid
 abbrev pub NoneIsValidAfter : Reading → List Event → Type 0
-NoneIsValidAfter g es = (more : List Event) (bytes : List ℕ) (d : Placed) → IsPyxDocument bytes d → events_of d ≡ es ++ more → ¬ (IsValidByReading g d)
+NoneIsValidAfter g es = (more : List Event) (d : Placed) → IsElementTree d → events_of d ≡ es ++ more → ¬ (IsValidByReading g d)
 
 -- No continuation after one of the events, at this line, is valid. Before it, each start of an element has a name that
 -- the grammar has.

@@ -56,16 +56,16 @@ pub data Regex : Type 0 where
 
 -- L(R), the texts that an expression matches as a whole (the tables of appendix F)
 mutual
-  pub data Matches : Regex → List ℕ → Type 0 where
-    nothing_is : Matches nothing_more []
-    one_is : {k : Class} {c : ℕ} → holds k c ≡ true → Matches (one_of k) (c ∷ [])
-    both_are : {a b : Regex} {s t all : List ℕ} → Matches a s → Matches b t → all ≡ s ++ t → Matches (both a b) all
-    first_is : {a b : Regex} {s : List ℕ} → Matches a s → Matches (either a b) s
-    second_is : {a b : Regex} {s : List ℕ} → Matches b s → Matches (either a b) s
+  pub data Denotes : Regex → List ℕ → Type 0 where
+    nothing_is : Denotes nothing_more []
+    one_is : {k : Class} {c : ℕ} → holds k c ≡ true → Denotes (one_of k) (c ∷ [])
+    both_are : {a b : Regex} {s t all : List ℕ} → Denotes a s → Denotes b t → all ≡ s ++ t → Denotes (both a b) all
+    first_is : {a b : Regex} {s : List ℕ} → Denotes a s → Denotes (either a b) s
+    second_is : {a b : Regex} {s : List ℕ} → Denotes b s → Denotes (either a b) s
     so_often : {least : ℕ} {most : Option ℕ} {a : Regex} {s : List ℕ} (n : ℕ) → AreCopies a n s → least ≤ n → IfSome most (λ m. n ≤ m)
-        → Matches (times least most a) s
+        → Denotes (times least most a) s
 
   -- so many texts of L(R), one after the other
   pub data AreCopies : Regex → ℕ → List ℕ → Type 0 where
     no_copy : {a : Regex} → AreCopies a 0 []
-    copy_and : {a : Regex} {n : ℕ} {s t all : List ℕ} → Matches a s → AreCopies a n t → all ≡ s ++ t → AreCopies a (suc n) all
+    copy_and : {a : Regex} {n : ℕ} {s t all : List ℕ} → Denotes a s → AreCopies a n t → all ≡ s ++ t → AreCopies a (suc n) all

@@ -1,5 +1,5 @@
 -- The facet `pattern` (XML Schema Part 2, Second Edition, section 4.3.4): which expressions are taken, and which texts match.
--- `IsRegex` and `Matches` say what the two functions `regex_of` and `is_match` say.
+-- `IsRegex` and `Denotes` say what the two functions `regex_of` and `is_match` say.
 use Rattle.std.specs.Prelude.{codes, ℕ, nat_le, List, [], ◌∷◌, Bool, not, Option, Some, None, if◌then◌else◌}
 use Rattle.std.specs.List.{list_all, filter}
 use Rattle.std.specs.Option.{option_map, option_and_then}
@@ -8,7 +8,7 @@ use Rattle.rng_model.specs.datatypes.Facets.{Parameter}
 use Rattle.rng_model.specs.datatypes.Datatypes.{Meaning, Maker}
 use Rattle.rng_model.specs.regexes.Expressions.{Regex}
 use Rattle.rng_model.specs.regexes.plain.Decided.{regex_of, is_match}
-use Rattle.rng_model.specs.regexes.plain.Postfix.{size, most_size}
+use Rattle.rng_model.specs.regexes.Sizes.{size, most_size}
 
 -- ---- expressions
 

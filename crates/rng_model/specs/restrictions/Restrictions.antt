@@ -1,14 +1,12 @@
 -- Clauses 24 to 27: names and texts that meet, and wildcards (RELAX NG Specification, sections 7.3 and 7.4). Then which of
--- the clauses 18 to 27 a simple grammar breaks, and the answer about it.
-use Rattle.std.specs.Prelude.{⊤, ℕ, List, ◌≡◌, slice_get, Some}
+-- the clauses 18 to 27 a simple grammar breaks.
+use Rattle.std.specs.Prelude.{ℕ, List, ◌≡◌, slice_get, Some}
 use Rattle.rng_model.specs.names.Names.{NameClass, NameClasses, any_name, any_except, ns_name, ns_except, one_of, class_and, Overlap}
 use Rattle.rng_model.specs.simple.Tree as tree
 use Rattle.rng_model.specs.simple.Tree.{Connector, Simple, s_text, s_leaf, s_attribute, s_joined}
 use Rattle.rng_model.specs.simple.Grammar.{StandsIn, StandsUnrepeated, OccursIn, Grammar}
 use Rattle.rng_model.specs.restrictions.Contents.{IsNoChoice, BreaksContent, HasProhibited, HasProhibitedInStart}
-use Rattle.rng_model.specs.names.Lists.{IsLeast, Among}
-use Rattle.rng_model.specs.declared.fault.SchemaFault.{SchemaFault}
-use Rattle.rng_model.specs.declared.fault.SchemaFault.TheVariants as faults
+use Rattle.rng_model.specs.names.Lists.{Among}
 
 -- ---- names, texts and wildcards (sections 7.3 and 7.4)
 
@@ -94,17 +92,3 @@ pub data BreaksRestriction (g : Grammar) : ℕ → Type 0 where
   in_wildcard : {p : Simple ℕ} → IsPart g p → BreaksWildcard p → BreaksRestriction g 25
   in_element_names : {p : Simple ℕ} → IsPart g p → BreaksElementNames (ClassIn g) p → BreaksRestriction g 26
   in_text : {p : Simple ℕ} → IsPart g p → BreaksText p → BreaksRestriction g 27
-
--- the least clause that it breaks
-abbrev pub IsLeastRestriction : Grammar → ℕ → Type 0
-IsLeastRestriction g clause = IsLeast (BreaksRestriction g) clause
-
--- the grammar breaks no restriction
-abbrev pub BreaksNone : Grammar → Type 0
-BreaksNone g = (clause : ℕ) → ¬ (BreaksRestriction g clause)
-
--- the least restriction that is broken; out of memory claims nothing
-abbrev pub IsRestrictionFault : Grammar → SchemaFault → Type 0
-IsRestrictionFault g (faults.File clause name) = ⊥
-IsRestrictionFault g (faults.Clause clause) = IsLeastRestriction g clause
-IsRestrictionFault g faults.Memory = ⊤

@@ -1,6 +1,6 @@
 -- The kinds of pattern in the simple syntax, which patterns are inside a pattern, and grammars (RELAX NG Specification,
 -- section 5).
-use Rattle.std.specs.Prelude.{◌≢◌, ⊤, ◌≡◌, ◌⊎◌, ℕ, List, All}
+use Rattle.std.specs.Prelude.{◌≢◌, ⊤, ℕ, List}
 use Rattle.rng_model.specs.names.Names.{NameClass}
 use Rattle.rng_model.specs.simple.Tree as tree
 use Rattle.rng_model.specs.simple.Tree.{Connector, Simple, s_not_allowed, s_empty, s_text, s_leaf, s_attribute, s_list, s_data, s_data_except, s_value}
@@ -81,11 +81,3 @@ module _ {L : Type 0} where
 pub record Grammar : Type 0 where
   pub start : Simple ℕ
   pub elements : List (NameClass × Simple ℕ)
-
--- what a start or a body may be: notAllowed as a whole, or a pattern without notAllowed in it (after section 4.20)
-abbrev pub IsSimpleBody : {L : Type 0} → Simple L → Type 0
-IsSimpleBody s = (s ≡ s_not_allowed) ⊎ (¬ (StandsIn s_not_allowed s))
-
-pub record IsInSimpleSyntax (g : Grammar) : Type 0 where
-  pub start : IsSimpleBody g.start
-  pub bodies : All (λ e. IsSimpleBody e.1) g.elements

@@ -1,12 +1,12 @@
 -- What the simplification of a schema has to return.
-use Rattle.std.specs.Prelude.{⊤, ◌↔◌, ℕ, ◌<◌, length}
+use Rattle.std.specs.Prelude.{⊤, ◌↔◌, ℕ, ◌<◌, length, ◌≡◌, ◌⊎◌, All}
 use Rattle.rng_model.specs.names.Lists.{IsLeast}
 use Rattle.rng_model.specs.restrictions.Restrictions.{IsPart}
 use Rattle.rng_model.specs.simple.Grammar.{StandsIn, Grammar}
 use Rattle.rng_model.specs.schema.Schema.{Schema}
 use Rattle.rng_model.specs.schema.SchemaClauses.{BreaksSchemaClause}
 use Rattle.rng_model.specs.simple.Table.{Table, grammar_of, tree_at}
-use Rattle.rng_model.specs.simple.Tree.{Simple}
+use Rattle.rng_model.specs.simple.Tree.{Simple, s_not_allowed}
 use Rattle.rng_model.specs.matching.Document.{Item}
 use Rattle.rng_model.specs.matching.GrammarMatching.{IsValidBy}
 use Rattle.rng_model.specs.matching.SchemaMatching.{IsValidBySchema}
@@ -28,3 +28,11 @@ AreAllUsed t = (i : ℕ) → i < length t.patterns → (part : Simple ℕ) × Is
 -- a document is valid by the grammar exactly if it is valid by the schema as it is written
 abbrev pub AreSameDocuments : Schema → Grammar → Type 0
 AreSameDocuments s g = (root : Item) → IsValidBy g (texts_of text_tests) root ↔ IsValidBySchema s root
+
+-- what a start or a body may be: notAllowed as a whole, or a pattern without notAllowed in it (after section 4.20)
+abbrev pub IsSimpleBody : {L : Type 0} → Simple L → Type 0
+IsSimpleBody s = (s ≡ s_not_allowed) ⊎ (¬ (StandsIn s_not_allowed s))
+
+pub record IsInSimpleSyntax (g : Grammar) : Type 0 where
+  pub start : IsSimpleBody g.start
+  pub bodies : All (λ e. IsSimpleBody e.1) g.elements

@@ -128,10 +128,6 @@ depends_on_context name = bytes_eq name (codes "QName") || bytes_eq name (codes 
 
 -- ---- datatypes
 
--- the values of texts in the type of that name with these parameters, if there is one and it takes them
-abbrev pub meaning_named : List ℕ → List Parameter → Option Meaning
-meaning_named name ps = option_and_then (λ make. make ps) (named name complete_types)
-
 abbrev pub complete_libraries : List (List ℕ × List (List ℕ × Maker))
 complete_libraries = ([], plain_types) ∷ (xsd_uri, complete_types) ∷ []
 

@@ -1,6 +1,6 @@
 -- What a schema breaks and which documents are valid by it, with a set of datatypes. Of the clauses S12 alone depends on
 -- the set. With the set `Profile` all of this is what SchemaClauses, SchemaMatching and SimplifiedSchema say.
-use Rattle.std.specs.Prelude.{⊤, ◌≡◌, ◌↔◌, ℕ, List}
+use Rattle.std.specs.Prelude.{◌≡◌, ◌↔◌, ℕ, List}
 use Rattle.rng_model.specs.names.Lists.{IsLeast}
 use Rattle.rng_model.specs.simple.Tree.{Datatype}
 use Rattle.rng_model.specs.simple.Grammar.{Grammar}
@@ -14,8 +14,6 @@ use Rattle.rng_model.specs.schema.Patterns.{Place, Pattern, data_of, data_except
 use Rattle.rng_model.specs.schema.Schema.{Schema, IsWrittenAt}
 use Rattle.rng_model.specs.schema.SchemaClauses.{BreaksSchemaClause}
 use Rattle.rng_model.specs.xsd.TypeSets.{IsKnownIn, IsValueIn, tests_in}
-use Rattle.rng_model.specs.declared.fault.SchemaFault.{SchemaFault}
-use Rattle.rng_model.specs.declared.fault.SchemaFault.TheVariants as faults
 use Rattle.rng_model.specs.declared.type_set.TypeSet.{TypeSet}
 
 module _ (types : TypeSet) where
@@ -43,12 +41,6 @@ module _ (types : TypeSet) where
   -- the least clause that the schema breaks
   abbrev pub IsLeastClauseWith : Schema → ℕ → Type 0
   IsLeastClauseWith s clause = IsLeast (BreaksClauseWith s) clause
-
-  -- the least clause that the schema breaks, of S11 to S17; out of memory claims nothing
-  abbrev pub IsSchemaFaultWith : Schema → SchemaFault → Type 0
-  IsSchemaFaultWith s (faults.Clause clause) = IsLeast (BreaksSchemaClauseWith s) clause
-  IsSchemaFaultWith s (faults.File clause name) = ⊥
-  IsSchemaFaultWith s faults.Memory = ⊤
 
   -- the document with this root is valid by the schema as it is written (RELAX NG Specification, section 6.3)
   abbrev pub IsValidBySchemaWith : Schema → Item → Type 0

@@ -122,7 +122,7 @@ uri_reference = in_order (optional (any_of (absolute_uri ∷ relative_uri ∷ []
 
 -- ---- anyURI
 
--- The text is a URI reference once it is escaped. `is_match` says what `Matches` says.
+-- The text is a URI reference once it is escaped. `is_match` says what `Denotes` says.
 unfoldable pub is_uri : List ℕ → Bool
 is_uri s = is_match uri_reference (chars s)
 

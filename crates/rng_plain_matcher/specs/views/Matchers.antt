@@ -3,9 +3,8 @@ use Rattle.std.specs.Prelude.{◌≡◌, ◌⊎◌, ℕ, List, [], ◌++◌, All
 use Rattle.rng_model.specs.simple.Table.{Table, grammar_of}
 use Rattle.rng_model.specs.documents.PyxTrees.{Event}
 use Rattle.rng_model.specs.matching.GrammarMatching.{reading_of}
-use Rattle.rng_model.specs.matching.Outcomes.{KnowsName}
-use Rattle.rng_deriv_laws.specs.plain.Outcomes.{FailsAt}
-use Rattle.rng_model.specs.restrictions.Restrictions.{BreaksNone}
+use Rattle.rng_model.specs.matching.Outcomes.{KnowsName, FailsAt}
+use Rattle.rng_model.specs.restrictions.RestrictionFaults.{BreaksNone}
 use Rattle.rng_deriv_laws.specs.plain.Events as laws
 use Rattle.rng_deriv_laws.specs.plain.States.{is_never}
 use Rattle.rng_plain_matcher.specs.declared.matcher.PlainMatcher.{PlainMatcher}

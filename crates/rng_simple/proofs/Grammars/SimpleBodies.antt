@@ -2,7 +2,8 @@
 use Rattle.std.proofs.Common.{◌↔◌, inl, inr, refl, sym, subst}
 use Rattle.rng_model.specs.simple.Tree.{Simple, s_not_allowed, s_empty, s_text, s_leaf, s_attribute, s_list, s_data, s_data_except, s_value, s_one_or_more}
 use Rattle.rng_model.specs.simple.Tree.{s_joined}
-use Rattle.rng_model.specs.simple.Grammar.{StandsIn, itself, below, of_attribute, of_list, of_except, of_one_or_more, of_left, of_right, IsSimpleBody}
+use Rattle.rng_model.specs.simple.Grammar.{StandsIn, itself, below, of_attribute, of_list, of_except, of_one_or_more, of_left, of_right}
+use Rattle.rng_model.specs.simple.SimplifiedSchema.{IsSimpleBody}
 use Rattle.rng_model.proofs.Inside.{in_attribute, in_list, in_except, in_one_or_more, in_left, in_right}
 use Rattle.rng_simple.specs.plain.SimpleBodies.{LacksNotAllowed, IsPlainBody}
 

@@ -9,11 +9,10 @@ use Rattle.rng_model.specs.names.Names as names
 use Rattle.rng_model.specs.simple.Tree.{as_tree}
 use Rattle.rng_simple.specs.plain.SimpleBodies.{IsPlainBody, LacksNotAllowed}
 use Rattle.rng_model.specs.simple.Tree.{Simple, s_not_allowed, s_empty, s_text, s_leaf, s_attribute, s_list, s_data, s_data_except, s_value, s_one_or_more, s_joined}
-use Rattle.rng_model.specs.simple.Grammar.{IsSimpleBody}
+use Rattle.rng_model.specs.simple.SimplifiedSchema.{IsSimpleBody, IsInSimpleSyntax}
 use Rattle.rng_model.specs.simple.Leaves.{AreLeavesBelow}
 use Rattle.rng_model.specs.simple.Table.{Table, grammar_of}
 use Rattle.rng_model.specs.simple.TableRules.{IsTable, IsDatatypeKnown, IsPaired, IsLeafListed}
-use Rattle.rng_model.specs.simple.Grammar.{IsInSimpleSyntax}
 use Rattle.rng_model.specs.names.NameViews.{class_of}
 use Rattle.rng_model.specs.declared.name.NameClass.{NameClass}
 use Rattle.rng_model.specs.declared.simple.PatternId.{PatternId}

@@ -2,10 +2,9 @@
 use Rattle.std.specs.Prelude.{ℕ, List}
 use Rattle.rng_model.specs.names.Names.{NameClass}
 use Rattle.rng_model.specs.simple.Table.{AreToldApart, Table, grammar_of}
-use Rattle.rng_model.specs.simple.Grammar.{IsInSimpleSyntax}
+use Rattle.rng_model.specs.simple.SimplifiedSchema.{IsInSimpleSyntax, AreAllUsed}
 use Rattle.rng_simple.specs.plain.Graph.{Graph}
 use Rattle.rng_simple.specs.plain.GrammarBy.{IsMadeOf}
-use Rattle.rng_model.specs.simple.SimplifiedSchema.{AreAllUsed}
 
 -- the tables are made of the graph, along this order of its definitions
 pub record IsMadeTable (classes : List NameClass) (g : Graph) (order : List ℕ) (t : Table) : Type 0 where

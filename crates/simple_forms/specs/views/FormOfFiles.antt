@@ -6,7 +6,8 @@ use Rattle.rng_model.specs.schema.Schema.{Schema}
 use Rattle.rng_model.specs.simple.SchemaForm.{IsOnlySimpleGrammarOf, IsSimpleGrammarOf}
 use Rattle.rng_model.specs.simple.SimplifiedSchema.{IsSchemaFault}
 use Rattle.rng_model.specs.simple.Grammar.{Grammar}
-use Rattle.rnc_model.specs.loading.Loading.{verdict_of_fault, TakenFiles, are_taken, FilesHaveOnlyVerdict}
+use Rattle.rnc_model.specs.loading.Loading.{TakenFiles, are_taken, FilesHaveOnlyVerdict}
+use Rattle.rnc_model.specs.loading.FileVerdicts.{verdict_of_fault}
 use Rattle.rnc_model.specs.loading.LoadedSchema.{AreSchema}
 use Rattle.rnc_model.specs.loading.SchemaFile.{FileName, NamedFile}
 

@@ -2,7 +2,8 @@
 use Rattle.std.specs.Prelude.{ℕ, zero, suc, ◌+◌, ◌-◌, ◌*◌, List, [], ◌∷◌, ◌++◌, length, take, drop}
 use Rattle.std.specs.Prelude.{Option, Some, None, if◌then◌else◌, nat_le}
 use Rattle.rng_model.specs.regexes.Expressions.{Class}
-use Rattle.rng_model.specs.regexes.plain.Postfix.{Row, nothing_row, class_row, both_row, either_row, times_row, most_copies, most_size}
+use Rattle.rng_model.specs.regexes.plain.Postfix.{nothing_row, class_row, both_row, either_row, times_row, Row}
+use Rattle.rng_model.specs.regexes.Sizes.{most_copies, most_size}
 use Rattle.xsd_positions.specs.declared.drafts.Kind.{Kind}
 use Rattle.xsd_positions.specs.declared.drafts.Kind.TheVariants as kind
 use Rattle.xsd_positions.specs.declared.drafts.Block.{Block}

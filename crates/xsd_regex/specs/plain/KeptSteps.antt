@@ -14,7 +14,7 @@ use Rattle.rng_model.specs.regexes.ExpressionGrammar.{most_count, is_meta, wildc
 use Rattle.xsd_regex.specs.plain.Groups.{Mark, member, ends, class_of_marks}
 use Rattle.rng_model.specs.regexes.plain.ClassSteps.{dash, is_end}
 use Rattle.rng_model.specs.regexes.plain.Machine.{opens_quantifier, value_or_zero}
-use Rattle.rng_model.specs.regexes.plain.Postfix.{Row, nothing_row, class_row, both_row, either_row, times_row}
+use Rattle.rng_model.specs.regexes.plain.Postfix.{nothing_row, class_row, both_row, either_row, times_row, Row}
 
 pub record Kept : Type 0 where
   -- the class that is open

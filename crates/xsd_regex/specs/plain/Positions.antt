@@ -1,7 +1,7 @@
 -- A table of the parts of an expression with its counts written out, each behind its own parts. A part has a number, and
 -- the end has the number of all parts.
 use Rattle.std.specs.Prelude.{◌≡◌, ℕ, ◌<◌, ◌≤◌, ◌-◌, List, ◌∷◌, length, Bool, false, None, slice_index_or}
-use Rattle.rng_model.specs.regexes.Expressions.{Class, Regex, nothing_more, one_of, both, either, times, Matches}
+use Rattle.rng_model.specs.regexes.Expressions.{Class, Regex, nothing_more, one_of, both, either, times, Denotes}
 use Rattle.rng_model.specs.regexes.plain.LinearForms.{RegexState, AcceptsState, is_nullable}
 use Rattle.xsd_regex.specs.plain.StateTable.{state_at}
 
@@ -56,5 +56,5 @@ pub record ArePositionsOf (r : Regex) (first : ℕ) (ps : List Position) : Type 
   pub states : List RegexState
   pub are : ArePositions states ps
   pub some : first < length ps
-  pub to : (s : List ℕ) → Matches r s → AcceptsState (state_at states first) s
-  pub back : (s : List ℕ) → AcceptsState (state_at states first) s → Matches r s
+  pub to : (s : List ℕ) → Denotes r s → AcceptsState (state_at states first) s
+  pub back : (s : List ℕ) → AcceptsState (state_at states first) s → Denotes r s

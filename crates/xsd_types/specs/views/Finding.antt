@@ -1,7 +1,8 @@
 -- What a search for a datatype returns.
 use Rattle.std.specs.Prelude.{◌≡◌, ℕ, List, Option, Some, None, Result, Ok, Err, is_some, IsTrue, ⊤}
 use Rattle.rng_model.specs.datatypes.Facets.{Parameter, named}
-use Rattle.rng_model.specs.xsd.Datatypes.{complete_types, meaning_named}
+use Rattle.rng_model.specs.xsd.Datatypes.{complete_types}
+use Rattle.rng_model.specs.plain.NamedTypes.{meaning_named}
 use Rattle.xsd_types.specs.declared.fault.TypeFault.{TypeFault}
 use Rattle.xsd_types.specs.declared.fault.TypeFault.TheVariants as faults
 

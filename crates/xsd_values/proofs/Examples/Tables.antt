@@ -2,7 +2,7 @@
 use Rattle.std.specs.Prelude.{ℕ, List, [], Bool}
 use Rattle.rng_model.specs.datatypes.Facets.{Parameter}
 use Rattle.rng_model.specs.datatypes.Datatypes as datatypes
-use Rattle.rng_model.specs.xsd.Datatypes.{meaning_named}
+use Rattle.rng_model.specs.plain.NamedTypes.{meaning_named}
 
 abbrev pub allows : List ℕ → List Parameter → List ℕ → Bool
 allows name ps s = datatypes.known_allows (meaning_named name ps) s

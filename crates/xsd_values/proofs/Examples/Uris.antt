@@ -1,4 +1,4 @@
--- Worked cases of anyURI, which the checker computes. That the test is `Matches` is `matches_are_decided`.
+-- Worked cases of anyURI, which the checker computes. That the test is `Denotes` is `matches_are_decided`.
 use Rattle.std.proofs.Common.{codes, ◌≡◌, [], ◌∷◌, refl, true, false}
 use Rattle.std.specs.Str.{chars}
 use Rattle.rng_model.specs.regexes.plain.LinearForms.{is_nullable, forms_of, forms}

@@ -1,7 +1,7 @@
 use Rattle.std.proofs.Common.{ℕ, List, Result, Err, IfOk, IsErrOf, ap, subst, ◌∙◌}
 use Rattle.rng_model.specs.declared.fault.OutOfMemory.{OutOfMemory}
 use Rattle.rng_model.specs.schema.Schema.{Schema}
-use Rattle.rncv_model.specs.answers.Verdict.{IsVerdictOn}
+use Rattle.rncv_model.specs.answers.VerdictWith.{IsVerdictOn}
 use Rattle.rncv_model.specs.declared.verdict.Verdict.{Verdict}
 use Rattle.rncv_validator.specs.views.FedDocuments.{HasBeenFed, Judging}
 use Rattle.rncv_validator.specs.views.Validators.{Judges}

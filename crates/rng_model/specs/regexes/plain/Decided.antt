@@ -1,9 +1,9 @@
 -- Whether a text is an expression, and whether an expression matches a text, as functions. `proofs/Decided.antt` shows
--- that they say what `IsRegex` and `Matches` say.
+-- that they say what `IsRegex` and `Denotes` say.
 use Rattle.std.specs.Prelude.{◌≡◌, ◌↔◌, ℕ, zero, suc, List, [], ◌∷◌, length, Bool, true, Option, Some, None}
 use Rattle.std.specs.List.{list_any}
 use Rattle.std.specs.Option.{option_map, option_and_then}
-use Rattle.rng_model.specs.regexes.Expressions.{Regex, Matches}
+use Rattle.rng_model.specs.regexes.Expressions.{Regex, Denotes}
 use Rattle.rng_model.specs.regexes.Symbols.{Symbol}
 use Rattle.rng_model.specs.regexes.ExpressionGrammar.{IsRegex}
 use Rattle.rng_model.specs.regexes.plain.Spelling.{next_symbol}
@@ -27,4 +27,4 @@ abbrev pub RegexesAreDecided : Type 0
 RegexesAreDecided = (text : List ℕ) (r : Regex) → (regex_of text ≡ Some r) ↔ IsRegex text r
 
 abbrev pub MatchesAreDecided : Type 0
-MatchesAreDecided = (r : Regex) (s : List ℕ) → (is_match r s ≡ true) ↔ Matches r s
+MatchesAreDecided = (r : Regex) (s : List ℕ) → (is_match r s ≡ true) ↔ Denotes r s

@@ -4,7 +4,7 @@ use Rattle.std.specs.Prelude.{◌⊎◌, ◌≡◌, ℕ, ◌-◌, List, [], ◌�
 use Rattle.std.specs.Prelude.{Option, Some, None, if◌then◌else◌, ◌==◌, nat_le}
 use Rattle.std.specs.Option.{option_map}
 use Rattle.std.specs.List.{list_all}
-use Rattle.rng_model.specs.regexes.Expressions.{Class, holds, Regex, nothing_more, one_of, both, either, times, Matches}
+use Rattle.rng_model.specs.regexes.Expressions.{Class, holds, Regex, nothing_more, one_of, both, either, times, Denotes}
 
 abbrev pub RegexState : Type 0
 RegexState = List Regex
@@ -12,7 +12,7 @@ RegexState = List Regex
 -- the text is a concatenation of texts that the expressions of the state match
 pub data AcceptsState : RegexState → List ℕ → Type 0 where
   nothing_left : AcceptsState [] []
-  next_is : {r : Regex} {k : RegexState} {s t all : List ℕ} → Matches r s → AcceptsState k t → all ≡ s ++ t → AcceptsState (r ∷ k) all
+  next_is : {r : Regex} {k : RegexState} {s t all : List ℕ} → Denotes r s → AcceptsState k t → all ≡ s ++ t → AcceptsState (r ∷ k) all
 
 -- ---- the empty text
 

@@ -17,9 +17,6 @@ year_numbered minus n = if minus then year_one - n else year_one - 1 + n
 abbrev pub is_leap : ℕ → Bool
 is_leap y = (y % 4 == 0) && (not (y % 100 == 0) || (y % 400 == 0))
 
-abbrev pub days_in_year : ℕ → ℕ
-days_in_year y = if is_leap y then 366 else 365
-
 -- the multiples of k that are less than n
 abbrev pub multiples_below : ℕ → ℕ → ℕ
 multiples_below k n = (n + (k - 1)) / k

@@ -1,10 +1,9 @@
 -- decimal: which number a text writes, and the facets on its digits (XML Schema Part 2, Second Edition, sections 3.2.3, 4.3.11
 -- and 4.3.12). A number has as many digits as are written: the standard asks for 18 at least.
-use Rattle.std.specs.Prelude.{codes, ◌≢◌, ℕ, ◌<◌, ◌%◌, ◌^◌, List, [], ◌∷◌, ◌++◌, length, Bool, true, not, ◌&&◌, ◌==◌, nat_le, nat_lt, cond, if◌then◌else◌}
+use Rattle.std.specs.Prelude.{codes, ℕ, ◌^◌, List, [], ◌∷◌, ◌++◌, length, Bool, true, not, ◌&&◌, ◌==◌, nat_le, nat_lt, cond, if◌then◌else◌}
 use Rattle.std.specs.Prelude.{Option, Some, None, ℤ, pos, neg_ℤ, ◌*ℤ◌, nat_abs, int_le, int_lt}
 use Rattle.std.specs.List.{list_all, slice_split}
 use Rattle.std.specs.Option.{option_and_then}
-use Rattle.std.specs.Ordering.{int_eq}
 use Rattle.std.specs.Str.Parse.{without_leading_sign, starts_with_minus, digits_value}
 use Rattle.rng_model.specs.datatypes.Texts.{collapse}
 use Rattle.rng_model.specs.datatypes.Facets.{passes, Parameter}
@@ -16,13 +15,6 @@ use Rattle.rng_model.specs.xsd.Limits.{Ordered, Limits, is_within_limits, writte
 pub record Decimal : Type 0 where
   pub units : ℤ
   pub places : ℕ
-
--- The last place is not 0. So each number is written in one way, as the values of texts are.
-abbrev pub IsCanonical : Decimal → Type 0
-IsCanonical d = 0 < d.places → nat_abs d.units % 10 ≢ 0
-
-abbrev pub same_decimal : Decimal → Decimal → Bool
-same_decimal a b = int_eq a.units b.units && (a.places == b.places)
 
 -- ---- which number a text writes
 
@@ -94,8 +86,8 @@ abbrev pub is_within_digits : Digits → Decimal → Bool
 is_within_digits f d = passes (λ total. has_total_digits total d) f.total && passes (λ fraction. has_fraction_digits fraction d) f.fraction
 
 -- a positiveInteger and a nonNegativeInteger (sections 4.3.11 and 4.3.12)
-abbrev pub digit_facets : Facets
-digit_facets = (codes "totalDigits", is_read digit_count_of) ∷ (codes "fractionDigits", is_read count_of) ∷ []
+abbrev pub decimal_facets : Facets
+decimal_facets = (codes "totalDigits", is_read digit_count_of) ∷ (codes "fractionDigits", is_read count_of) ∷ []
 
 abbrev pub digits_of : List Parameter → Digits
 digits_of ps = record { total = written digit_count_of (codes "totalDigits") ps; fraction = written count_of (codes "fractionDigits") ps }
@@ -118,4 +110,4 @@ with_digits f l = if are_digits_in_order f then Some (record { limits = l; digit
 
 -- these are the facets that the parameters write, if decimal takes them
 abbrev pub written_decimal_facets : List Parameter → Option DecimalFacets
-written_decimal_facets ps = option_and_then (with_digits (digits_of ps)) (written_limits decimals digit_facets ps)
+written_decimal_facets ps = option_and_then (with_digits (digits_of ps)) (written_limits decimals decimal_facets ps)

@@ -1,7 +1,7 @@
 use Rattle.std.proofs.lemmas.Result.{IfErr-weaker, IfOk-weaker}
 use Rattle.rng_load.specs.views.PlacedGrammars.{schema_of}
 use Rattle.rng_model.specs.simple.SimplifiedSchema.{IsSchemaFault}
-use Rattle.rng_model.specs.xsd.SchemasWith.{IsSchemaFaultWith}
+use Rattle.rng_simple.specs.views.SchemaFaults.{IsSchemaFaultWith}
 use Rattle.rng_model.specs.declared.type_set.TypeSet.TheVariants.{Profile}
 use Rattle.rng_simple.proofs.ProfileClauses.{profile_fault, to_profile}
 use Rattle.rng_simple.proofs.schema_simplification.simplify.Goals as goal

@@ -3,11 +3,11 @@ use Rattle.std.proofs.lemmas.Iterator.{YieldsList-from_slice}
 use Rattle.std.proofs.lemmas.Iterator.Search.{all_from_yields_List}
 use Rattle.std.proofs.lemmas.List.Folds.{list_all-map}
 use Rattle.rng_model.specs.datatypes.DatatypeViews.{parameter_of}
-use Rattle.rng_model.specs.datatypes.Facets.{length_of, is_facet}
+use Rattle.rng_model.specs.datatypes.Facets.{length_of, is_range_facet}
 use Rattle.rng_types.proofs.parameters.are_lengths.Goals as goal
 
 pub returns : goal.returns
 returns c =
-    all_from_yields_List (λ p. is_facet length_of (codes "minLength") (codes "maxLength") (parameter_of p)) _ _ c.all.result c.all.ensures.ran (YieldsList-from_slice c.args.params.now cc)
+    all_from_yields_List (λ p. is_range_facet length_of (codes "minLength") (codes "maxLength") (parameter_of p)) _ _ c.all.result c.all.ensures.ran (YieldsList-from_slice c.args.params.now cc)
     (λ x b q k. search (rules, tests))
-    ∙ sym (list_all-map (is_facet length_of (codes "minLength") (codes "maxLength")) parameter_of c.args.params.now)
+    ∙ sym (list_all-map (is_range_facet length_of (codes "minLength") (codes "maxLength")) parameter_of c.args.params.now)

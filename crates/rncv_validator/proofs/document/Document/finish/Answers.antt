@@ -2,7 +2,7 @@ use Rattle.std.proofs.Common.{◌≡◌, ◌⊎◌, ◌∙◌, Ok, Result, IfOk,
 use Rattle.pyx.specs.views.Calls.{Ends, UnlessOutOfMemory}
 use Rattle.rng_model.specs.declared.fault.OutOfMemory.{OutOfMemory}
 use Rattle.rng_model.specs.documents.EventViews.{Hands}
-use Rattle.rncv_model.specs.answers.Verdict.{IsMalformed}
+use Rattle.rncv_model.specs.answers.Verdict.{IsMalformedVerdict}
 use Rattle.rncv_model.specs.declared.verdict.Verdict.{Verdict}
 use Rattle.rncv_model.specs.declared.verdict.Verdict.TheVariants.{Invalid}
 use Rattle.rng_deriv.specs.views.Matchers.{HasGoneOn}
@@ -47,7 +47,7 @@ returns-in-Ok-clause-since c =
     c.resume-matcher.ensures in
     let ends = subst (λ (j : Judging). UnlessOutOfMemory c.finish-ended.result (Ends (Hands HasGoneOn old new) j.reader c.finish-ended.result)) c.self.view_is
     c.finish-ended.ensures.document in
-    subst (λ (r : Result Verdict OutOfMemory). IfSome (failed_since c.args.self) (λ line. IfOk r (λ v. IsMalformed v ⊎ (v ≡ Invalid line))))
+    subst (λ (r : Result Verdict OutOfMemory). IfSome (failed_since c.args.self) (λ line. IfOk r (λ v. IsMalformedVerdict v ⊎ (v ≡ Invalid line))))
     (sym c.verdict.ensures ∙ c.in-Ok.is)
     (ended_since c.args.self old new there c.finish-ended.result c.outcome.result ends c.outcome.ensures.failed)
 

@@ -1,6 +1,7 @@
 use Rattle.std.proofs.Common.{List, ℕ, IfSome, subst}
 use Rattle.std.proofs.lemmas.Result.{err_from_is_err_and}
-use Rattle.rnc_model.specs.loading.Loading.{verdict_of_fault, FilesHaveOnlyVerdict}
+use Rattle.rnc_model.specs.loading.Loading.{FilesHaveOnlyVerdict}
+use Rattle.rnc_model.specs.loading.FileVerdicts.{verdict_of_fault}
 use Rattle.rnc_model.specs.loading.SchemaFile.{named_files}
 use Rattle.rncv_model.specs.answers.Run.{main_name}
 use Rattle.rncv_validator.proofs.RefusedFiles.{refused_files}

@@ -1,7 +1,7 @@
 use Rattle.std.proofs.Common.{IfOk, IsErr, OnErr, subst}
 use Rattle.rng_model.specs.documents.ElementTrees.{IsElementTree}
 use Rattle.rng_model.specs.documents.PyxTrees.{Placed, events_of}
-use Rattle.rng_deriv_laws.specs.plain.Outcomes.{IsOutcome}
+use Rattle.rng_model.specs.matching.Outcomes.{IsOutcome}
 use Rattle.rng_deriv.specs.views.Matchers.{HasRunOut, Knows, Matching, judges_by}
 use Rattle.rng_deriv.proofs.matcher.Matcher.outcome.Goals as goal
 

@@ -4,8 +4,7 @@ use Rattle.rng_model.specs.documents.PyxTrees.{events_of}
 use Rattle.rng_deriv_laws.specs.plain.Derivatives.{is_nullable}
 use Rattle.rng_deriv_events.specs.views.Basis.{reading_by}
 use Rattle.rng_deriv_events.specs.views.Numbers.{tree_of}
-use Rattle.rng_model.specs.matching.Outcomes.{IsValidByReading}
-use Rattle.rng_deriv_laws.specs.plain.Outcomes.{FailsAt}
+use Rattle.rng_model.specs.matching.Outcomes.{IsValidByReading, FailsAt}
 use Rattle.rng_deriv_events.specs.views.OpenPositions.{open_position}
 use Rattle.rng_deriv_events.specs.views.Positions.{IsKnown}
 use Rattle.rng_deriv_events.specs.declared.position.Position.{Position}

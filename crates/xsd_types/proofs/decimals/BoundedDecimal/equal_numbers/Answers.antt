@@ -1,6 +1,7 @@
 use Rattle.std.proofs.Common.{◌&&◌, Bool, ap, ◌∙◌, sym}
 use Rattle.std.proofs.lemmas.Bool.{and_left}
-use Rattle.rng_model.specs.xsd.primitives.Decimals.{Decimal, same_decimal, is_within_decimal_facets}
+use Rattle.rng_model.specs.xsd.primitives.Decimals.{Decimal, is_within_decimal_facets}
+use Rattle.rng_model.specs.plain.OneDecimal.{same_decimal}
 use Rattle.xsd_types.specs.views.Ordered.{decimal_facets_of}
 use Rattle.xsd_types.proofs.OneValue.{decimals_if}
 use Rattle.xsd_types.proofs.decimals.BoundedDecimal.equal_numbers.Goals as goal
