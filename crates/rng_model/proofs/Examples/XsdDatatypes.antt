@@ -55,6 +55,19 @@ no_items : allows (codes "IDREFS") [] (codes " ") ≡ false
 unfolding collapse pieces integer_of written_lengths chars patterns_of
 no_items = refl
 
+-- so none may have no item
+no_item_at_most : is_some (meaning_named (codes "NMTOKENS") ((codes "maxLength", codes "0") ∷ [])) ≡ false
+unfolding collapse pieces integer_of written_lengths chars patterns_of
+no_item_at_most = refl
+
+no_item_at_least : is_some (meaning_named (codes "ENTITIES") ((codes "minLength", codes "0") ∷ [])) ≡ false
+unfolding collapse pieces integer_of written_lengths chars patterns_of
+no_item_at_least = refl
+
+no_character : is_some (meaning_named (codes "token") ((codes "length", codes "0") ∷ [])) ≡ true
+unfolding collapse pieces integer_of written_lengths chars patterns_of
+no_character = refl
+
 -- blanks are replaced one by one
 replaced_blanks : equates (codes "normalizedString") (9 ∷ codes "a") (codes " a") ≡ true
 unfolding integer_of written_lengths chars patterns_of

@@ -18,16 +18,20 @@ use Rattle.rng_model.specs.xsd.Uris.{xsd_any_uri}
 use Rattle.rng_model.specs.xsd.primitives.Floats.{floats}
 use Rattle.rng_model.specs.xsd.primitives.Octets.{hex_length, hex_binary_of, base64_length, base64_binary_of}
 use Rattle.rng_model.specs.xsd.primitives.Zones.{ordered_by}
-use Rattle.rng_model.specs.xsd.primitives.Moments.{date_time_of, time_of, date_of, year_month_of, year_of, month_day_of, day_of, month_of}
+use Rattle.rng_model.specs.xsd.primitives.Moments.{date_time_of, times, date_of, year_month_of, year_of, month_day_of, day_of, month_of}
 use Rattle.rng_model.specs.xsd.primitives.Durations.{durations}
-use Rattle.rng_model.specs.xsd.primitives.Values.{float, moment, duration}
+use Rattle.rng_model.specs.xsd.primitives.Values.{float, moment, time, duration}
 use Rattle.rng_model.specs.xsd.primitives.Types.{with_limits, with_decimal_facets, with_octets}
 use Rattle.rng_model.specs.xsd.Types.{xsd_normalized, xsd_language, xsd_name, xsd_qname, xsd_nmtokens, xsd_ncnames, xsd_number}
 
 -- ---- the parameters of each type besides `pattern`
 
 abbrev pub with_lengths : (Lengths → Meaning) → List Parameter → Option Meaning
-with_lengths meaning ps = option_map meaning (written_lengths ps)
+with_lengths meaning ps = option_map meaning (written_lengths 0 ps)
+
+-- a list, which has one item at least (sections 3.3.5, 3.3.10 and 3.3.12)
+abbrev pub with_item_counts : (Lengths → Meaning) → List Parameter → Option Meaning
+with_item_counts meaning ps = option_map meaning (written_lengths 1 ps)
 
 abbrev pub with_number_facets : Bounds → List Parameter → Option Meaning
 with_number_facets b ps = option_map (xsd_number b) (written_facets b ps)
@@ -74,14 +78,14 @@ text_types =
     (codes "token", collapsing (with_lengths xsd_token)) ∷  -- 3.3.2
     (codes "language", collapsing (with_lengths xsd_language)) ∷  -- 3.3.3
     (codes "NMTOKEN", collapsing (with_lengths xsd_nmtoken)) ∷  -- 3.3.4
-    (codes "NMTOKENS", collapsing (with_lengths xsd_nmtokens)) ∷  -- 3.3.5
+    (codes "NMTOKENS", collapsing (with_item_counts xsd_nmtokens)) ∷  -- 3.3.5
     (codes "Name", collapsing (with_lengths xsd_name)) ∷  -- 3.3.6
     (codes "NCName", collapsing (with_lengths xsd_ncname)) ∷  -- 3.3.7
     (codes "ID", collapsing (with_lengths xsd_ncname)) ∷  -- 3.3.8; a document's IDs are compared elsewhere
     (codes "IDREF", collapsing (with_lengths xsd_ncname)) ∷  -- 3.3.9
-    (codes "IDREFS", collapsing (with_lengths xsd_ncnames)) ∷  -- 3.3.10
+    (codes "IDREFS", collapsing (with_item_counts xsd_ncnames)) ∷  -- 3.3.10
     (codes "ENTITY", collapsing (with_lengths xsd_ncname)) ∷  -- 3.3.11, whether or not it is declared
-    (codes "ENTITIES", collapsing (with_lengths xsd_ncnames)) ∷ []  -- 3.3.12
+    (codes "ENTITIES", collapsing (with_item_counts xsd_ncnames)) ∷ []  -- 3.3.12
 
 -- the types of integers
 abbrev pub number_types : List (List ℕ × Maker)
@@ -108,7 +112,7 @@ primitive_types =
     (codes "double", collapsing (with_limits float (floats binary64))) ∷  -- 3.2.5
     (codes "duration", collapsing (with_limits duration durations)) ∷  -- 3.2.6
     (codes "dateTime", collapsing (with_limits moment (ordered_by date_time_of))) ∷  -- 3.2.7
-    (codes "time", collapsing (with_limits moment (ordered_by time_of))) ∷  -- 3.2.8
+    (codes "time", collapsing (with_limits time times)) ∷  -- 3.2.8
     (codes "date", collapsing (with_limits moment (ordered_by date_of))) ∷  -- 3.2.9
     (codes "gYearMonth", collapsing (with_limits moment (ordered_by year_month_of))) ∷  -- 3.2.10
     (codes "gYear", collapsing (with_limits moment (ordered_by year_of))) ∷  -- 3.2.11

@@ -3,7 +3,7 @@ use Rattle.std.specs.Prelude.{codes, ℕ, List, [], ◌∷◌, Bool, false, Opti
 use Rattle.std.specs.List.{list_all}
 use Rattle.std.specs.Option.{option_and_then}
 use Rattle.rng_model.specs.datatypes.Facets.{Lengths, passes, Parameter, named, is_once}
-use Rattle.rng_model.specs.xsd.Numbers.{count_of}
+use Rattle.rng_model.specs.xsd.Numbers.{count_from}
 
 -- ---- which parameters a type takes
 
@@ -34,14 +34,18 @@ is_read read s = is_some (read s)
 abbrev pub clash : {A : Type 0} → (A → A → Bool) → Option A → Option A → Bool
 clash test a b = not (passes (λ x. passes (test x) b) a)
 
--- ---- lengths
+-- ---- lengths, of which none is less than the least of the type (sections 4.3.1.4 and 4.3.2.4)
 
-abbrev pub length_facets : Facets
-length_facets =
-    (codes "length", is_read count_of) ∷ (codes "minLength", is_read count_of) ∷ (codes "maxLength", is_read count_of) ∷ []
+abbrev pub length_facets : ℕ → Facets
+length_facets least =
+    (codes "length", is_read (count_from least)) ∷
+    (codes "minLength", is_read (count_from least)) ∷ (codes "maxLength", is_read (count_from least)) ∷ []
 
-abbrev pub least_and_greatest : List Parameter → Lengths
-least_and_greatest ps = record { least = written count_of (codes "minLength") ps; greatest = written count_of (codes "maxLength") ps }
+abbrev pub least_and_greatest : ℕ → List Parameter → Lengths
+least_and_greatest least ps = record {
+  least = written (count_from least) (codes "minLength") ps;
+  greatest = written (count_from least) (codes "maxLength") ps;
+}
 
 -- the least is at most the greatest (section 4.3.2.4)
 abbrev pub is_range : Lengths → Bool
@@ -52,6 +56,8 @@ abbrev pub joined_lengths : Option ℕ → Lengths → Option Lengths
 joined_lengths None l = if is_range l then Some l else None
 joined_lengths (Some n) l = if is_none l.least && is_none l.greatest then Some (record { least = Some n; greatest = Some n }) else None
 
--- these are the lengths that the parameters allow, if a type with lengths takes them
-unfoldable pub written_lengths : List Parameter → Option Lengths
-written_lengths ps = if are_facets length_facets ps then joined_lengths (written count_of (codes "length") ps) (least_and_greatest ps) else None
+-- these are the lengths that the parameters allow, if a type with this least length takes them
+unfoldable pub written_lengths : ℕ → List Parameter → Option Lengths
+written_lengths least ps =
+    if are_facets (length_facets least) ps
+    then joined_lengths (written (count_from least) (codes "length") ps) (least_and_greatest least ps) else None

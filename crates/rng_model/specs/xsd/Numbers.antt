@@ -31,7 +31,7 @@ counted_from least (negsuc n) = None
 abbrev pub count_from : ℕ → List ℕ → Option ℕ
 count_from least s = option_and_then (counted_from least) (written_integer s)
 
--- a nonNegativeInteger: the value of `length`, `minLength` or `maxLength` (section 3.3.20)
+-- a nonNegativeInteger: the value of `fractionDigits` (sections 3.3.20 and 4.3.12)
 abbrev pub count_of : List ℕ → Option ℕ
 count_of = count_from 0
 

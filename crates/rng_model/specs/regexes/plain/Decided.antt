@@ -1,5 +1,5 @@
--- Whether a text is an expression, and whether an expression matches a text, as functions. `proofs/Decided.antt` shows
--- that they say what `IsRegex` and `Denotes` say.
+-- Whether a text is an expression, and whether an expression matches a text, as functions, and that they say what `IsRegex`
+-- and `Denotes` say.
 use Rattle.std.specs.Prelude.{◌≡◌, ◌↔◌, ℕ, zero, suc, List, [], ◌∷◌, length, Bool, true, Option, Some, None}
 use Rattle.std.specs.List.{list_any}
 use Rattle.std.specs.Option.{option_map, option_and_then}

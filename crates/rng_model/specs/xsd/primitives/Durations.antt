@@ -1,12 +1,12 @@
 -- duration: which one a text writes, and which is less (XML Schema Part 2, Second Edition, section 3.2.6).
-use Rattle.std.specs.Prelude.{ℕ, ◌+◌, ◌-◌, ◌*◌, ◌/◌, ◌%◌, List, [], ◌∷◌, length, Bool, true, false, not, ◌&&◌, ◌||◌, ◌==◌, nat_le, nat_lt, if◌then◌else◌}
+use Rattle.std.specs.Prelude.{ℕ, ◌+◌, ◌-◌, ◌*◌, ◌/◌, ◌%◌, ◌^◌, List, [], ◌∷◌, length, Bool, true, false, not, ◌&&◌, ◌||◌, ◌==◌, nat_lt, if◌then◌else◌}
 use Rattle.std.specs.Prelude.{Option, Some, None}
 use Rattle.std.specs.Bool.{beq}
 use Rattle.std.specs.List.{list_all}
 use Rattle.std.specs.Str.Parse.{digits_value}
 use Rattle.rng_model.specs.datatypes.Texts.{has_bytes, collapse}
 use Rattle.rng_model.specs.xsd.Limits.{Ordered}
-use Rattle.rng_model.specs.xsd.primitives.Calendar.{year_one, begins, second, minute, hour, day}
+use Rattle.rng_model.specs.xsd.primitives.Calendar.{begins, second, minute, hour, day}
 use Rattle.rng_model.specs.xsd.primitives.Fronts.{Front, ◌>>=◌, after, first_digits, past_digits, fraction_at}
 
 -- A duration: years, months, days, hours, minutes and seconds, these in units of 10 ^ -18, all with one sign. Two are the same
@@ -31,12 +31,13 @@ same_duration a b = beq a.negative b.negative && (same_date_part a b && same_tim
 
 -- ---- which duration a text writes (section 3.2.6.1)
 
--- The greatest number of digits of each of the six numbers, without a fraction.
-abbrev pub most_field_digits : ℕ
-most_field_digits = 9
+-- Each of the six numbers is below this limit: 18 digits are read, without zeros in front and without a fraction. The standard
+-- asks for as many of a decimal at least (section 3.2.3).
+abbrev pub number_limit : ℕ
+number_limit = 10 ^ 18
 
 abbrev pub is_number : List ℕ → Bool
-is_number ds = nat_le 1 (length ds) && nat_le (length ds) most_field_digits
+is_number ds = has_bytes ds && nat_lt (digits_value 10 ds) number_limit
 
 -- A number that is 0 may be left out (section 3.2.6.1).
 abbrev pub number_if : Bool → ℕ → List ℕ → Option (List ℕ) → Front
@@ -105,6 +106,11 @@ months_in d = d.years * 12 + d.months
 abbrev pub time_in : Duration → ℕ
 time_in d = d.days * day + d.hours * hour + d.minutes * minute + d.seconds
 
+-- The years before the year 1, a multiple of 400 of them, from the first one of the calendar on. They are so many that no month
+-- is negative that is reached below.
+abbrev pub years_before : ℕ
+years_before = 4 * 10 ^ 20
+
 -- where the month begins that is so many months after the first one of the calendar
 abbrev pub month_begins : ℕ → ℕ
 month_begins k = begins (k / 12) (k % 12 + 1) 1
@@ -115,15 +121,21 @@ added_to k d = if d.negative then month_begins (k - months_in d) - time_in d els
 
 -- the months that begin with 1696-09-01, 1697-02-01, 1903-03-01 and 1903-07-01
 abbrev pub four_months : List ℕ
-four_months = ((year_one + 1695) * 12 + 8) ∷ ((year_one + 1696) * 12 + 1) ∷ ((year_one + 1902) * 12 + 2) ∷ ((year_one + 1902) * 12 + 6) ∷ []
+four_months =
+    ((years_before + 1696) * 12 + 8) ∷ ((years_before + 1697) * 12 + 1) ∷
+    ((years_before + 1903) * 12 + 2) ∷ ((years_before + 1903) * 12 + 6) ∷ []
 
 abbrev pub is_less : Duration → Duration → Bool
 is_less a b = list_all (λ k. nat_lt (added_to k a) (added_to k b)) four_months
+
+-- Two are equal in the order if they have the same sign, and are as many months and as many seconds.
+abbrev pub is_as_long : Duration → Duration → Bool
+is_as_long a b = beq a.negative b.negative && ((months_in a == months_in b) && (time_in a == time_in b))
 
 abbrev pub durations : Ordered Duration
 durations = record {
   value_of = λ s. duration_of (collapse s);
   has = λ d. true;
-  is_at_most = λ a b. same_duration a b || is_less a b;
+  is_at_most = λ a b. is_as_long a b || is_less a b;
   is_less = is_less;
 }

@@ -3,9 +3,11 @@
 use Rattle.std.specs.Prelude.{ℕ, ◌+◌, ◌*◌, ◌%◌, List, [], ◌∷◌, length, Bool, true, false, not, ◌&&◌, ◌||◌, ◌==◌}
 use Rattle.std.specs.Prelude.{nat_le, nat_lt, if◌then◌else◌, Option, Some, None}
 use Rattle.std.specs.Str.Parse.{digits_value}
+use Rattle.rng_model.specs.datatypes.Texts.{collapse}
+use Rattle.rng_model.specs.xsd.Limits.{Ordered}
 use Rattle.rng_model.specs.xsd.primitives.Calendar.{year_one, year_numbered, days_in_month, begins, second, minute, hour, day}
 use Rattle.rng_model.specs.xsd.primitives.Fronts.{Front, ◌>>=◌, after, two_digits, first_digits, past_digits, fraction_at}
-use Rattle.rng_model.specs.xsd.primitives.Zones.{Moment, with_zone}
+use Rattle.rng_model.specs.xsd.primitives.Zones.{Moment, same_moment, is_before, with_zone}
 
 -- ---- dates and times
 
@@ -69,15 +71,24 @@ date_time_of s = do
   c ← clock_at rest
   with_zone (d.0 + c.0, c.1)
 
--- A time recurs every day: the moment is counted from where the day begins (section 3.2.8).
-abbrev pub each_day : Moment → Moment
-each_day m = record { zoned = m.zoned; at = m.at % day }
-
+-- A time recurs every day. This is its moment on one arbitrary day (section 3.2.8).
 unfoldable pub time_of : List ℕ → Option Moment
 time_of s = do
   c ← clock_at s
-  m ← with_zone (day + c.0, c.1)
-  Some (each_day m)
+  with_zone (day + c.0, c.1)
+
+-- the moment of the day, counted from where the day begins
+abbrev pub each_day : Moment → Moment
+each_day m = record { zoned = m.zoned; at = m.at % day }
+
+-- Times are in the order of their moments on the one day. Two are equal if they are the same moment of the day.
+abbrev pub times : Ordered Moment
+times = record {
+  value_of = λ s. time_of (collapse s);
+  has = λ m. true;
+  is_at_most = λ a b. same_moment (each_day a) (each_day b) || is_before a b;
+  is_less = is_before;
+}
 
 -- a date, a month and a year are where they begin (sections 3.2.9 to 3.2.11)
 unfoldable pub date_of : List ℕ → Option Moment

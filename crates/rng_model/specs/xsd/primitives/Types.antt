@@ -28,4 +28,4 @@ with_decimal_facets ps =
 -- the type takes lengths, which count octets (section 4.3.1)
 abbrev pub with_octets : (List ℕ → Option (List ℕ)) → (List ℕ → ℕ) → Maker
 with_octets octets_of length_of ps =
-    option_map (λ l s. option_and_then (value_if text (λ o. is_within l (length_of o))) (octets_of (collapse s))) (written_lengths ps)
+    option_map (λ l s. option_and_then (value_if text (λ o. is_within l (length_of o))) (octets_of (collapse s))) (written_lengths 0 ps)
