@@ -1,12 +1,10 @@
-// The types whose values are moments.
+// The types whose values are moments that do not recur every day.
 
-/// A type of XML Schema whose values are moments.
+/// A type of XML Schema whose values are moments, but for `time`.
 #[derive(Clone, Copy, Debug, PartialEq, Eq)]
 pub enum MomentKind {
     /// `dateTime`, section 3.2.7.
     DateTime,
-    /// `time`, section 3.2.8.
-    Time,
     /// `date`, section 3.2.9.
     Date,
     /// `gYearMonth`, section 3.2.10.

@@ -10,7 +10,9 @@ mod fronts;
 mod kind;
 mod moment;
 mod texts;
+mod time;
 mod zones;
 
 pub use kind::MomentKind;
 pub use moment::Moment;
+pub use time::Time;

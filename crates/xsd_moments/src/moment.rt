@@ -5,10 +5,10 @@ ghost use Rattle.xsd_moments.specs.Views.{moment_of};
 
 use crate::calendar::SECOND;
 
-/// A point of the timeline, in Coordinated Universal Time if its text has a time zone. A time of day is counted from where the
-/// day begins. What recurs every year or month is where it begins in the year 2000, or in January 2000.
+/// A point of the timeline, in Coordinated Universal Time if its text has a time zone. What recurs every year or month is where
+/// it begins in the year 2000, or in January 2000.
 ///
-/// XML Schema Part 2, Second Edition, sections 3.2.7 to 3.2.14.
+/// XML Schema Part 2, Second Edition, sections 3.2.7 and 3.2.9 to 3.2.14.
 #[derive(Clone, Copy, Debug)]
 pub struct Moment {
     pub(crate) zoned: bool,

@@ -2,10 +2,10 @@
 ghost use Rattle.std.specs.Prelude.{◌≡◌};
 ghost use Rattle.std.specs.Option.{option_map};
 ghost use Rattle.rng_types.specs.plain.Runs.{from_run};
-ghost use Rattle.rng_model.specs.xsd.primitives.Moments.{date_time_of, time_of, date_of, year_month_of, year_of, month_day_of, day_of, month_of};
+ghost use Rattle.rng_model.specs.xsd.primitives.Moments.{date_time_of, date_of, year_month_of, year_of, month_day_of, day_of, month_of};
 ghost use Rattle.xsd_moments.specs.Views.{moment_by, moment_of, ordered_of};
 
-use crate::calendar::{DAY, begins};
+use crate::calendar::begins;
 use crate::dates::{clock, date, day, hyphen_and, year};
 use crate::fronts::after;
 use crate::kind::MomentKind;
@@ -19,7 +19,7 @@ const ANY_YEAR: u64 = 10_000_002_000;
 impl Moment {
     /// Returns the moment that the text writes in the type, with or without blanks around it, or `None` where it writes none.
     ///
-    /// XML Schema Part 2, Second Edition, sections 3.2.7 to 3.2.14. A year has 10 digits at most, and a fraction of a second 18.
+    /// XML Schema Part 2, Second Edition, sections 3.2.7 and 3.2.9 to 3.2.14. A year has 10 digits at most, and a fraction of a second 18.
     /// One pass over the text, and another over each run of digits. Allocates nothing.
     pub fn read(kind: MomentKind, text: &str) -> Option<Moment>
         ensures { option_map moment_of result ≡ (ordered_of kind).value_of text.now }
@@ -34,7 +34,6 @@ fn read_run(kind: MomentKind, bytes: &[u8]) -> Option<Moment>
 {
     match kind {
         MomentKind::DateTime => date_time(bytes),
-        MomentKind::Time => time(bytes),
         MomentKind::Date => whole_day(bytes),
         MomentKind::YearMonth => year_month(bytes),
         MomentKind::Year => whole_year(bytes),
@@ -51,18 +50,6 @@ fn date_time(bytes: &[u8]) -> Option<Moment>
     let (day, rest) = date(bytes)?;
     let (time, rest) = clock(after(b'T', rest)?)?;
     with_zone(day + time, rest)
-}
-
-#[tactic(auto, unfolding(rng_model::specs::xsd::primitives::Moments::time_of))]
-fn time(bytes: &[u8]) -> Option<Moment>
-    ensures { option_map moment_of result ≡ time_of (from_run bytes.now) }
-{
-    let (time, rest) = clock(bytes)?;
-    let moment = with_zone(DAY + time, rest)?;
-    Some(Moment {
-        zoned: moment.zoned,
-        at: moment.at % DAY,
-    })
 }
 
 #[tactic(auto, unfolding(rng_model::specs::xsd::primitives::Moments::date_of))]

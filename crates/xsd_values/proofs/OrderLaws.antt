@@ -1,15 +1,15 @@
 -- The orders of moments and of durations are partial orders, and decimals are in one line (XML Schema Part 2, Second Edition,
 -- section 4.2.2).
-use Rattle.std.proofs.Common.{◌≡◌, ◌<◌, ℕ, ◌+◌, ◌*◌, List, [], ◌∷◌, length, Bool, true, false, refl, arith}
+use Rattle.std.proofs.Common.{◌≡◌, ◌<◌, ℕ, ◌+◌, ◌-◌, ◌*◌, List, [], ◌∷◌, length, Bool, true, false, ◌&&◌, ◌==◌, refl, ap, ap₂, ◌∙◌, rules, arith}
 use Rattle.std.proofs.Common.{nat_lt, nat_le, not, cond, ℤ, pos, negsuc, int_lt, int_le}
 use Rattle.std.specs.Bool.{beq}
 use Rattle.std.specs.List.{list_all}
-use Rattle.std.proofs.lemmas.Bool.{and_parts, and_from, and_left, ltb-true, lt-ltb, le-ltb}
+use Rattle.std.proofs.lemmas.Bool.{and_parts, and_from, and_left, eqb-true, ltb-true, lt-ltb, le-ltb}
 use Rattle.std.proofs.lemmas.Bool.Decides.{nat_tests}
 use Rattle.rng_model.specs.xsd.primitives.Calendar.{hour}
 use Rattle.rng_model.specs.xsd.primitives.Decimals.{Decimal, scaled, decimals}
 use Rattle.rng_model.specs.xsd.primitives.Zones.{Moment, is_before}
-use Rattle.rng_model.specs.xsd.primitives.Durations.{Duration, is_less, added_to, four_months}
+use Rattle.rng_model.specs.xsd.primitives.Durations.{Duration, is_less, is_as_long, months_in, time_in, month_begins, added_to, four_months}
 
 -- ---- numbers
 
@@ -63,6 +63,23 @@ not_less_than_itself a = fails_on four_months (λ k. added_to k a) (omega arith)
 
 pub less_transitive : (a b c : Duration) → is_less a b ≡ true → is_less b c ≡ true → is_less a c ≡ true
 less_transitive a b c p q = all_chain four_months (λ k. added_to k a) (λ k. added_to k b) (λ k. added_to k c) p q
+
+-- Two that are as long end together, whatever they are added to: neither is less.
+pub as_long_together : (a b : Duration) → is_as_long a b ≡ true → (k : ℕ) → added_to k a ≡ added_to k b
+as_long_together a b e k =
+    let sign = and_parts (beq a.negative b.negative) ((months_in a == months_in b) && (time_in a == time_in b)) e in
+    let both = and_parts (months_in a == months_in b) (time_in a == time_in b) sign.1 in
+    ap (λ s. ends s (months_in a) (time_in a)) (truth_is a.negative b.negative sign.0)
+    ∙ ap₂ (λ m t. ends b.negative m t) (eqb-true (months_in a) (months_in b) both.0) (eqb-true (time_in a) (time_in b) both.1)
+  where
+    ends : Bool → ℕ → ℕ → ℕ
+    ends s m t = cond s (month_begins (k - m) - t) (month_begins (k + m) + t)
+
+    truth_is : (s t : Bool) → beq s t ≡ true → s ≡ t
+    truth_is true true e = refl
+    truth_is true false e = search rules
+    truth_is false true e = search rules
+    truth_is false false e = refl
 
 -- ---- decimals: each two can be compared
 

@@ -12,8 +12,9 @@ use Rattle.rng_model.specs.xsd.primitives.Decimals.{Decimal}
 use Rattle.rng_model.specs.plain.OneDecimal.{same_decimal}
 use Rattle.rng_model.specs.xsd.primitives.Floats.{same_float}
 use Rattle.rng_model.specs.xsd.primitives.Zones.{Moment, same_moment}
+use Rattle.rng_model.specs.xsd.primitives.Moments.{each_day}
 use Rattle.rng_model.specs.xsd.primitives.Durations.{Duration, same_date_part, same_time_part, same_duration}
-use Rattle.rng_model.specs.xsd.primitives.Values.{of_truth, of_integer, decimal, float, moment, duration}
+use Rattle.rng_model.specs.xsd.primitives.Values.{of_truth, of_integer, decimal, float, moment, time, duration}
 
 truth_decides : (a b : Bool) → Decides (beq a b) (a ≡ b)
 truth_decides true true = (λ e. refl, λ e. refl)
@@ -176,6 +177,10 @@ same_moment_value =
     same_if moment (λ v. moment_from (parts v)) (λ m. ap (λ z. record { zoned = z; at = m.at }) (truth_again m.zoned))
     same_moment moment_is moment_self
 
+-- two times have one value if they are the same moment of the day
+pub same_time_value : (a b : Moment) → same_value (time a) (time b) ≡ same_moment (each_day a) (each_day b)
+same_time_value a b = same_moment_value (each_day a) (each_day b)
+
 abbrev nothing_long : Duration
 nothing_long = record { negative = false; years = 0; months = 0; days = 0; hours = 0; minutes = 0; seconds = 0 }
 
@@ -192,16 +197,7 @@ duration_again d =
 pub same_duration_value : (a b : Duration) → same_value (duration a) (duration b) ≡ same_duration a b
 same_duration_value = same_if duration (λ v. duration_from (parts v)) duration_again same_duration duration_is duration_self
 
--- ---- two things with one value are the same
+-- ---- two decimals with one value are the same
 
 pub one_decimal : (a b : Decimal) → same_value (decimal a) (decimal b) ≡ true → a ≡ b
 one_decimal a b e = decimal_is a b (sym (same_decimal_value a b) ∙ e)
-
-pub one_float : (a b : Float) → same_value (float a) (float b) ≡ true → a ≡ b
-one_float a b e = float_is a b (sym (same_float_value a b) ∙ e)
-
-pub one_moment : (a b : Moment) → same_value (moment a) (moment b) ≡ true → a ≡ b
-one_moment a b e = moment_is a b (sym (same_moment_value a b) ∙ e)
-
-pub one_duration : (a b : Duration) → same_value (duration a) (duration b) ≡ true → a ≡ b
-one_duration a b e = duration_is a b (sym (same_duration_value a b) ∙ e)

@@ -24,6 +24,10 @@ zero_fraction : equates (codes "duration") (codes "PT60S") (codes "PT60.0S") ≡
 unfolding duration_of collapse pieces written_limits patterns_of
 zero_fraction = refl
 
+zeros_in_front : equates (codes "duration") (codes "P0000000001Y") (codes "P1Y") ≡ true
+unfolding duration_of collapse pieces written_limits patterns_of
+zeros_in_front = refl
+
 zeros : equates (codes "duration") (codes "-P0D") (codes "P0D") ≡ true
 unfolding duration_of collapse pieces written_limits patterns_of
 zeros = refl
@@ -92,6 +96,15 @@ below_zero : against (codes "-P1D") (codes "PT0S") ≡ Some (true, false)
 unfolding duration_of
 below_zero = refl
 
+-- years are twelve months each, however many there are
+many_years : against (codes "P999999999999999999Y") (codes "P999999999999999999Y1M") ≡ Some (true, false)
+unfolding duration_of
+many_years = refl
+
+many_years_before : against (codes "-P999999999999999999Y999999999999999999M") (codes "-P999999999999999999Y999999999999999998M") ≡ Some (true, false)
+unfolding duration_of
+many_years_before = refl
+
 -- ---- bounds: one that is neither less nor greater does not allow the value
 
 undecided : allows (codes "duration") ((codes "minInclusive", codes "P30D") ∷ []) (codes "P1M") ≡ false
@@ -101,6 +114,27 @@ undecided = refl
 at_bound : allows (codes "duration") ((codes "minInclusive", codes "P30D") ∷ []) (codes "P30D") ≡ true
 unfolding duration_of collapse pieces written_limits patterns_of
 at_bound = refl
+
+-- as many months and as many seconds, in other numbers
+sixty_minutes : allows (codes "duration") ((codes "maxInclusive", codes "PT1H") ∷ []) (codes "PT60M") ≡ true
+unfolding duration_of collapse pieces written_limits patterns_of
+sixty_minutes = refl
+
+twelve_months : allows (codes "duration") ((codes "minInclusive", codes "P12M") ∷ []) (codes "P1Y") ≡ true
+unfolding duration_of collapse pieces written_limits patterns_of
+twelve_months = refl
+
+one_year_only : is_some (written_limits durations [] ((codes "minInclusive", codes "P12M") ∷ (codes "maxInclusive", codes "P1Y") ∷ [])) ≡ true
+unfolding duration_of collapse pieces written_limits
+one_year_only = refl
+
+not_below_itself : allows (codes "duration") ((codes "maxExclusive", codes "PT1H") ∷ []) (codes "PT60M") ≡ false
+unfolding duration_of collapse pieces written_limits patterns_of
+not_below_itself = refl
+
+not_without_sign : allows (codes "duration") ((codes "maxInclusive", codes "-PT1H") ∷ []) (codes "PT60M") ≡ false
+unfolding duration_of collapse pieces written_limits patterns_of
+not_without_sign = refl
 
 above : allows (codes "duration") ((codes "minInclusive", codes "P30D") ∷ []) (codes "P2M") ≡ true
 unfolding duration_of collapse pieces written_limits patterns_of

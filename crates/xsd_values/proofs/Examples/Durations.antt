@@ -12,6 +12,9 @@ are_durations : list_all (λ s. is_some (duration_of s)) (
     codes "P1347Y" ∷
     codes "P1Y2MT2H" ∷
     codes "PT0.5S" ∷
+    codes "P1234567890D" ∷  -- eighteen digits may be written
+    codes "P0999999999999999999Y" ∷  -- and zeros in front of them
+    codes "P000000000000000000000000000000Y" ∷
     []) ≡ true
 unfolding duration_of
 are_durations = refl
@@ -28,7 +31,8 @@ are_none : list_all (λ s. is_none (duration_of s)) (
     codes "PT1H1D" ∷
     codes "+P1D" ∷
     codes "p1y" ∷
-    codes "P1234567890Y" ∷  -- more than nine digits
+    codes "P1000000000000000000Y" ∷  -- more than eighteen digits
+    codes "PT1000000000000000000.5S" ∷
     []) ≡ true
 unfolding duration_of
 are_none = refl

@@ -1,6 +1,6 @@
 -- Worked cases of moments that are equal, and of the order of moments, which the checker computes.
 use Rattle.std.proofs.Common.{codes, ◌≡◌, ℕ, List, [], ◌∷◌, refl, true, false, Bool, Option, Some, None, ◌&&◌, not}
-use Rattle.std.specs.List.{list_all}
+use Rattle.std.specs.List.{list_all, list_any}
 use Rattle.rng_model.specs.datatypes.Texts.{collapse, pieces}
 use Rattle.rng_model.specs.xsd.Limits.{written_limits}
 use Rattle.rng_model.specs.xsd.primitives.Zones.{Moment, is_before}
@@ -95,3 +95,33 @@ undecided = refl
 decided : allows (codes "dateTime") ((codes "maxExclusive", codes "2000-01-01T00:00:00") ∷ []) (codes "1999-12-31T09:59:59Z") ≡ true
 unfolding date_time_of collapse pieces written_limits patterns_of
 decided = refl
+
+-- ---- bounds of times, which are compared as dateTimes of one arbitrary date (section 3.2.8)
+
+-- the working hours of a zone in which the day of Coordinated Universal Time begins at nine
+abbrev nine_hours : List (List ℕ × List ℕ)
+nine_hours = (codes "minInclusive", codes "08:00:00+09:00") ∷ (codes "maxInclusive", codes "17:00:00+09:00") ∷ []
+
+inside : list_all (allows (codes "time") nine_hours) (
+    codes "08:00:00+09:00" ∷ codes "08:59:59+09:00" ∷ codes "09:00:00+09:00" ∷ codes "17:00:00+09:00" ∷
+    codes "00:00:00Z" ∷ codes "03:00:00-05:00" ∷ []) ≡ true
+unfolding time_of collapse pieces written_limits patterns_of
+inside = refl
+
+outside : list_any (allows (codes "time") nine_hours) (
+    codes "07:59:59+09:00" ∷ codes "17:00:00.001+09:00" ∷ codes "22:59:59Z" ∷ codes "08:00:01Z" ∷
+    codes "23:00:00Z" ∷  -- the moment of the day at which the lower bound is, one day later
+    codes "09:00:00" ∷  -- without a time zone
+    []) ≡ false
+unfolding time_of collapse pieces written_limits patterns_of
+outside = refl
+
+-- the same moment of the day is the same time
+at_bound_of_times : allows (codes "time") ((codes "minInclusive", codes "23:00:00Z") ∷ []) (codes "08:00:00+09:00") ≡ true
+unfolding time_of collapse pieces written_limits patterns_of
+at_bound_of_times = refl
+
+-- 24:00:00 is where the next day begins
+whole_day : allows (codes "time") ((codes "minInclusive", codes "00:00:00Z") ∷ (codes "maxInclusive", codes "24:00:00Z") ∷ []) (codes "12:00:00Z") ≡ true
+unfolding time_of collapse pieces written_limits patterns_of
+whole_day = refl
