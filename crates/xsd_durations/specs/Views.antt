@@ -5,8 +5,8 @@ use Rattle.rng_types.specs.plain.Runs.{from_run}
 use Rattle.rng_model.specs.xsd.primitives.Calendar.{second}
 use Rattle.rng_model.specs.xsd.primitives.Fronts.{Front}
 use Rattle.rng_model.specs.xsd.primitives.Durations as durations
-use Rattle.xsd_durations.specs.declared.duration.Seconds.{Seconds}
 use Rattle.xsd_durations.specs.declared.duration.Duration.{Duration}
+use Rattle.xsd_durations.specs.declared.order.End.{End}
 use Rattle.xsd_durations.specs.declared.reading.DatePart.{DatePart}
 use Rattle.xsd_durations.specs.declared.reading.TimePart.{TimePart}
 
@@ -14,18 +14,11 @@ use Rattle.xsd_durations.specs.declared.reading.TimePart.{TimePart}
 abbrev pub seen : ℕ × Bor (List ℕ) → Front
 seen f = (f.0, from_run f.1.now)
 
--- seconds in units of 10 ^ -18 s
-abbrev pub units_of : Seconds → ℕ
-units_of s = s.whole * second + s.fraction
-
-abbrev pub seen_seconds : Seconds × Bor (List ℕ) → Front
-seen_seconds f = (units_of f.0, from_run f.1.now)
-
 abbrev pub date_of : DatePart → ℕ × ℕ × ℕ
 date_of d = (d.years, d.months, d.days)
 
 abbrev pub time_of : TimePart → ℕ × ℕ × ℕ
-time_of t = (t.hours, t.minutes, units_of t.seconds)
+time_of t = (t.hours, t.minutes, t.seconds)
 
 abbrev pub duration_view : Duration → durations.Duration
 duration_view d = record {
@@ -35,5 +28,9 @@ duration_view d = record {
   days = d.days;
   hours = d.hours;
   minutes = d.minutes;
-  seconds = units_of d.seconds;
+  seconds = d.seconds;
 }
+
+-- where a duration ends, in units of 10 ^ -18 s
+abbrev pub end_view : End → ℕ
+end_view e = e.seconds * second + e.units

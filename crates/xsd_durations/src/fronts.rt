@@ -1,12 +1,13 @@
 // What the front of a collapsed text writes, and the bytes behind it. The bytes may have blanks where the collapsed text has
 // one space or none.
-ghost use Rattle.std.specs.Prelude.{◌≡◌, ◌≤◌, ◌<◌, ◌^◌, false, length, true};
+ghost use Rattle.std.specs.Prelude.{◌≡◌, ◌≤◌, false, length, true, if◌then◌else◌, Some, None};
 ghost use Rattle.std.specs.Char.{is_ascii_digit};
 ghost use Rattle.std.specs.List.{list_all};
 ghost use Rattle.std.specs.Option.{option_map};
 ghost use Rattle.std.specs.Str.Parse.{digits_value};
 ghost use Rattle.rng_model.specs.datatypes.Texts.{is_blank_byte};
 ghost use Rattle.rng_types.specs.plain.Runs.{from_run};
+ghost use Rattle.rng_model.specs.xsd.primitives.Durations.{is_number};
 ghost use Rattle.rng_model.specs.xsd.primitives.Fronts.{after, first_digits, past_digits, fraction_value, fraction_with, fraction_at};
 ghost use Rattle.xsd_durations.specs.Views.{seen};
 
@@ -14,6 +15,9 @@ use rng_types::digits_len;
 
 /// The greatest number of digits of a fraction of a second.
 const MOST_FRACTION_DIGITS: usize = 18;
+
+/// Each number is below this one, without a fraction.
+const NUMBER_LIMIT: u64 = 1_000_000_000_000_000_000;
 
 // what is behind the byte that begins the text
 pub(crate) fn after(byte: u8, text: &[u8]) -> Option<&[u8]>
@@ -46,6 +50,24 @@ pub(crate) fn number(digits: &[u8]) -> u64
         number = number * 10 + (*digit - b'0') as u64;
     }
     number
+}
+
+// the number that the digits write, if there is one and it is below the limit; zeros in front do not count
+pub(crate) fn limited_number(digits: &[u8]) -> Option<u64>
+    requires { list_all is_ascii_digit digits.now ≡ true }
+    ensures { result ≡ (if is_number digits.now then Some (digits_value 10 digits.now) else None) }
+{
+    if digits.is_empty() {
+        return None;
+    }
+    let mut number = 0;
+    'digits: for digit in digits {
+        number = number * 10 + (*digit - b'0') as u64;
+        if number >= NUMBER_LIMIT {
+            return None;
+        }
+    }
+    Some(number)
 }
 
 // a point and digits in units of 10 ^ -18, or neither

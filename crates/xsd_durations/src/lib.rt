@@ -10,4 +10,4 @@ mod order;
 mod reading;
 mod units;
 
-pub use duration::{Duration, Seconds};
+pub use duration::Duration;

@@ -1,43 +1,38 @@
 // Which duration a text writes.
-ghost use Rattle.std.specs.Prelude.{◌≡◌, ◌≤◌, false, length, true, unwrap_or};
-ghost use Rattle.std.specs.Char.{is_ascii_digit};
-ghost use Rattle.std.specs.List.{list_all};
+ghost use Rattle.std.specs.Prelude.{◌≡◌, false, unwrap_or};
 ghost use Rattle.std.specs.Option.{option_map};
-ghost use Rattle.std.specs.Str.Parse.{digits_value};
 ghost use Rattle.rng_model.specs.datatypes.Texts.{collapse, is_blank_byte};
 ghost use Rattle.rng_types.specs.plain.Runs.{from_run};
-ghost use Rattle.rng_model.specs.xsd.primitives.Durations.{is_number, number_before, seconds_at, is_zero, duration_of, duration_fields, duration_with, time_fields, time_part};
+ghost use Rattle.rng_model.specs.xsd.primitives.Durations.{number_before, seconds_at, is_zero, duration_of, duration_fields, duration_with, time_fields, time_part};
 ghost use Rattle.xsd_durations.specs.Parts.{period};
-ghost use Rattle.xsd_durations.specs.Views.{seen, seen_seconds, date_of, time_of, duration_view};
+ghost use Rattle.xsd_durations.specs.Views.{seen, date_of, time_of, duration_view};
 
-use crate::duration::{Duration, Seconds};
-use crate::fronts::{after, fraction_at, number, split_digits};
+use crate::duration::Duration;
+use crate::fronts::{after, fraction_at, limited_number, split_digits};
+use crate::units::SECOND;
 use rng_types::{is_blank, past_blanks};
-
-/// The greatest number of digits of each number, without a fraction.
-const MOST_FIELD_DIGITS: usize = 9;
 
 // the years, months and days of a duration
 #[derive(Clone, Copy)]
 struct DatePart {
-    years: u32,
-    months: u32,
-    days: u32,
+    years: u64,
+    months: u64,
+    days: u64,
 }
 
-// the hours, minutes and seconds of a duration
+// the hours, minutes and seconds of a duration, these in units of 10 ^ -18 s
 #[derive(Clone, Copy)]
 struct TimePart {
-    hours: u32,
-    minutes: u32,
-    seconds: Seconds,
+    hours: u64,
+    minutes: u64,
+    seconds: u128,
 }
 
 impl Duration {
     /// Returns the duration that the text writes, with or without blanks around it, or `None` if it writes none.
     ///
-    /// XML Schema Part 2, section 3.2.6.1. Each number may have nine digits, and a fraction of a second eighteen. One pass
-    /// over the text. Allocates nothing.
+    /// XML Schema Part 2, section 3.2.6.1. Each number may have eighteen digits, without zeros in front, and a fraction
+    /// of a second eighteen. One pass over the text, and another over each run of digits. Allocates nothing.
     pub fn read(text: &str) -> Option<Duration>
         ensures { option_map duration_view result ≡ duration_of (collapse text.now) }
     {
@@ -108,7 +103,7 @@ fn is_zero_date(date: DatePart) -> bool
 fn is_zero_time(time: TimePart) -> bool
     ensures { result ≡ is_zero (time_of time) }
 {
-    time.hours == 0 && time.minutes == 0 && time.seconds.units() == 0
+    time.hours == 0 && time.minutes == 0 && time.seconds == 0
 }
 
 // `T` and hours, minutes and seconds, or nothing
@@ -119,10 +114,7 @@ fn time_part(text: &[u8]) -> Option<TimePart>
         return Some(TimePart {
             hours: 0,
             minutes: 0,
-            seconds: Seconds {
-                whole: 0,
-                fraction: 0,
-            },
+            seconds: 0,
         });
     }
     match after(b'T', text) {
@@ -148,59 +140,45 @@ fn time_fields(text: &[u8]) -> Option<TimePart>
     })
 }
 
-// seconds, with or without a fraction, and `S` behind them, or neither
-fn seconds_at(text: &[u8]) -> (Seconds, &[u8])
-    ensures { seen_seconds result ≡ seconds_at (from_run text.now) }
+// seconds in units of 10 ^ -18 s, with or without a fraction, and `S` behind them, or neither
+fn seconds_at(text: &[u8]) -> (u128, &[u8])
+    ensures { seen result ≡ seconds_at (from_run text.now) }
 {
     match written_seconds(text) {
         Some(seconds) => seconds,
-        None => (
-            Seconds {
-                whole: 0,
-                fraction: 0,
-            },
-            text,
-        ),
+        None => (0, text),
     }
 }
 
 // the seconds that the text begins with, if it does
-fn written_seconds(text: &[u8]) -> Option<(Seconds, &[u8])>
-    ensures { unwrap_or (option_map seen_seconds result) (0, from_run text.now) ≡ seconds_at (from_run text.now) }
+fn written_seconds(text: &[u8]) -> Option<(u128, &[u8])>
+    ensures { unwrap_or (option_map seen result) (0, from_run text.now) ≡ seconds_at (from_run text.now) }
 {
     let (digits, rest) = split_digits(text);
     let (fraction, rest) = fraction_at(rest)?;
     let rest = after(b'S', rest)?;
-    if !is_number(digits) {
-        return None;
-    }
-    let whole = field_number(digits);
-    Some((Seconds { whole, fraction }, rest))
+    let whole = limited_number(digits)?;
+    Some((whole as u128 * SECOND + fraction as u128, rest))
 }
 
 // a number and this letter behind it, or neither
-fn number_before(letter: u8, text: &[u8]) -> (u32, &[u8])
+fn number_before(letter: u8, text: &[u8]) -> (u64, &[u8])
     requires { is_blank_byte letter ≡ false }
     ensures { seen result ≡ number_before letter (from_run text.now) }
 {
-    let (digits, rest) = split_digits(text);
-    match after(letter, rest) {
-        Some(rest) if is_number(digits) => (field_number(digits), rest),
-        _ => (0, text),
+    match written_before(letter, text) {
+        Some(number) => number,
+        None => (0, text),
     }
 }
 
-fn is_number(digits: &[u8]) -> bool
-    ensures { result ≡ is_number digits.now }
+// the number that the text begins with, if it does, and this letter is behind it
+fn written_before(letter: u8, text: &[u8]) -> Option<(u64, &[u8])>
+    requires { is_blank_byte letter ≡ false }
+    ensures { unwrap_or (option_map seen result) (0, from_run text.now) ≡ number_before letter (from_run text.now) }
 {
-    1 <= digits.len() && digits.len() <= MOST_FIELD_DIGITS
-}
-
-// the number that at most nine digits write
-fn field_number(digits: &[u8]) -> u32
-    requires all { list_all is_ascii_digit digits.now ≡ true }
-    requires few { length digits.now ≤ 9 }
-    ensures { result ≡ digits_value 10 digits.now }
-{
-    number(digits) as u32
+    let (digits, rest) = split_digits(text);
+    let rest = after(letter, rest)?;
+    let number = limited_number(digits)?;
+    Some((number, rest))
 }

@@ -3,11 +3,11 @@
 /// A second in these units.
 pub(crate) const SECOND: u128 = 1_000_000_000_000_000_000;
 
-/// A minute in these units.
-pub(crate) const MINUTE: u128 = 60 * SECOND;
+/// The seconds in a minute.
+pub(crate) const MINUTE: u128 = 60;
 
-/// An hour in these units.
+/// The seconds in an hour.
 pub(crate) const HOUR: u128 = 60 * MINUTE;
 
-/// A day in these units.
+/// The seconds in a day.
 pub(crate) const DAY: u128 = 24 * HOUR;
