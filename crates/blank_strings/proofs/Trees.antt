@@ -5,7 +5,7 @@ use Rattle.rng_model.specs.matching.Document.{Attribute, a_text, Items, item_and
 use Rattle.rng_model.specs.datatypes.Texts.{is_blank}
 use Rattle.rng_model.specs.documents.PyxTrees.{Event, a_start, a_string, an_end, Placed, PlacedItems, text_at, element_at, none_placed, placed_and}
 use Rattle.rng_model.specs.documents.PyxTrees.{item_of, items_of, events_of, events_in}
-use Rattle.rng_model.specs.documents.Telling.{IsElement}
+use Rattle.rng_model.specs.documents.Telling.{IsPlacedElement}
 use Rattle.rng_deriv_laws.specs.plain.Blanks.{has_element}
 use Rattle.blank_strings.specs.LeftOut.{LeavesOutBlanks, LeaveOutBlanks, same_string, same_tag, no_more, kept, left_out}
 use Rattle.blank_strings.proofs.Events.{BeginsBeside, LeaveOutStrings, no_events, stays, string_out}
@@ -94,13 +94,13 @@ left {b} (placed_and (element_at n q xs inner j) kids) m behind fs o =
 pub record LeftDocument (d : Placed) (fs : List Event) : Type 0 where
   pub rest : Placed
   pub events : events_of rest ≡ fs
-  pub is_element : IsElement rest
+  pub is_element : IsPlacedElement rest
   pub leaves_out : LeavesOutBlanks (item_of d) (item_of rest)
 
 nothing_behind : {fs : List Event} → LeaveOutStrings true [] fs → fs ≡ []
 nothing_behind no_events = refl
 
-pub left_document : (d : Placed) → IsElement d → (fs : List Event) → LeaveOutStrings false (events_of d) fs → LeftDocument d fs
+pub left_document : (d : Placed) → IsPlacedElement d → (fs : List Event) → LeaveOutStrings false (events_of d) fs → LeftDocument d fs
 left_document (text_at n s) is fs o = absurd is
 left_document (element_at n q xs kids m) is fs o =
     let s = started n q xs (events_in kids ++ end m ∷ []) fs o in

@@ -6,7 +6,7 @@ use Rattle.std.proofs.Math.Dec.{eqb-suc-zero}
 use Rattle.std.specs.Prelude.{zero, suc}
 use Rattle.rng_model.proofs.Truths.{no_truth}
 use Rattle.rng_model.specs.documents.PyxTrees.{Event, Placed}
-use Rattle.rng_model.specs.documents.Telling.{events_at, string_at, BeginsDocument, NoneBegins, TellsTheDocument, TellsDocument}
+use Rattle.rng_model.specs.documents.Telling.{events_at, string_at, BeginToTell, NoneBegins, TellsTheDocument, TellsDocument}
 use Rattle.element_events.specs.plain.Calls as plain
 use Rattle.element_events.specs.plain.Calls.{AreTaken, after, is_misplaced, none_taken, one_more, nothing_taken}
 use Rattle.element_events.specs.views.Kept.{Kept, Stands, IsAfter, IsPassed, IsTaken, IsRefused, IsWhole, Takes, TakesText, Adds, Extends, UnlessOutOfMemory, IsVerdict}
@@ -27,7 +27,7 @@ still_working : (k : Kept) (calls sent : List Event) → k.fault ≡ None → (t
     → Stands k calls sent
 still_working k calls sent f a = subst (λ (o : Option EventFault). IsAfter o k.passed k.state calls sent) (sym f) a
 
-pub stands_begins : (k : Kept) → k.fault ≡ None → (calls sent : List Event) → Stands k calls sent → BeginsDocument calls sent
+pub stands_begins : (k : Kept) → k.fault ≡ None → (calls sent : List Event) → Stands k calls sent → BeginToTell calls sent
 stands_begins k f calls sent s = begins (working k calls sent f s).2
 
 -- a start or an end

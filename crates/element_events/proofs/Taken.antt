@@ -11,8 +11,8 @@ use Rattle.rng_model.specs.datatypes.Texts.{is_blank}
 use Rattle.rng_model.specs.matching.Document.{Attribute, none}
 use Rattle.rng_model.specs.plain.WellFormed as w
 use Rattle.rng_model.specs.documents.PyxTrees.{Placed, text_at, element_at, none_placed, Event, EventKind, a_start, a_string, an_end, events_of}
-use Rattle.rng_model.specs.documents.Telling.{IsGood, text_told, depth_after, text_after, events_at, events_behind, events_told, IsElement, TellsDocument}
-use Rattle.rng_model.specs.documents.Telling.{NoneBegins, BeginsDocument, TellsTheDocument}
+use Rattle.rng_model.specs.documents.Telling.{IsGood, text_told, depth_after, text_after, events_at, events_behind, events_told, IsPlacedElement, TellsDocument}
+use Rattle.rng_model.specs.documents.Telling.{NoneBegins, BeginToTell, TellsTheDocument}
 use Rattle.element_events.specs.plain.Calls.{State, is_misplaced, AreTaken}
 use Rattle.element_events.proofs.Walks.{at_line, ends_at, content_ends, same_item}
 use Rattle.element_events.proofs.Trees.{Leads, stays, lead_on, leads_ends, root_of}
@@ -58,7 +58,7 @@ unfolding a_root events_behind
 a_root_told = refl
 
 begins_by : (calls sent : List Event) (d : ℕ) (root : Bool) (text : List ℕ) → AreGood calls → Tells calls d text sent → IsSent d root text sent →
-    BeginsDocument calls sent
+    BeginToTell calls sent
 begins_by calls sent d root text g h unbegun = record {
   more = a_root;
   tree = element_at 0 a_name [] none_placed 0;
@@ -83,7 +83,7 @@ begins_by calls sent d root text g h (begun {es = es} {q = q} {xs = xs} e i x l 
       events = λ behind other t. (events_behind d text behind, sym t.events ∙ h behind);
     }
 
-pub begins : {calls sent : List Event} {s : State} → AreTaken calls s sent → BeginsDocument calls sent
+pub begins : {calls sent : List Event} {s : State} → AreTaken calls s sent → BeginToTell calls sent
 begins {calls} {sent} {s} a = begins_by calls sent s.depth s.root s.text (are_good a) (told_more a) (is_sent a)
 
 -- ---- all calls tell a document
@@ -134,7 +134,7 @@ nothing : (e : Event) (es : List Event) → ends_at 0 (e ∷ es) ≡ None
 unfolding ends_at
 nothing e es = refl
 
-no_walk : (d : ℕ) (root : Bool) (text : List ℕ) (sent es : List Event) → IsSent d root text sent → d ≡ 0 → Wrong root es → (tree : Placed) → IsElement tree →
+no_walk : (d : ℕ) (root : Bool) (text : List ℕ) (sent es : List Event) → IsSent d root text sent → d ≡ 0 → Wrong root es → (tree : Placed) → IsPlacedElement tree →
     sent ++ es ≡ events_of tree → ⊥
 no_walk d root text sent es s o u (text_at n t) b p = b
 no_walk d root text sent es unbegun o u (element_at n q xs kids m) b p = u.odd refl (starts n (a_start q xs) u.first u.rest _ (sym u.parts ∙ p))
@@ -266,7 +266,7 @@ open_still d [] = refl
 open_still d (c ∷ cs) = refl
 
 unfinished_by : (calls sent : List Event) (d : ℕ) (root : Bool) (text : List ℕ) → Tells calls d text sent → IsSent d root text sent → (root && d == 0) ≡ false →
-    (tree : Placed) → IsElement tree → events_told calls ≡ events_of tree → ⊥
+    (tree : Placed) → IsPlacedElement tree → events_told calls ≡ events_of tree → ⊥
 unfinished_by calls sent d root text h s u (text_at n t) b p = b
 unfinished_by calls sent zero root text h unbegun u (element_at n q xs kids m) b p =
     nowhere (sym (ap events_told (sym (append-nil calls)) ∙ h [] ∙ no_string 0 [] refl) ∙ p) where

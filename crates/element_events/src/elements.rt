@@ -2,7 +2,7 @@
 ghost use Rattle.std.specs.Prelude.{◌≡◌, ℕ, [], List, OnOk, IfErr, IfSome, IfNone, IsErrOf, Some, None, Err, false, length, true, unwrap_or};
 ghost use Rattle.rng_model.specs.documents.EventViews.{Hands};
 ghost use Rattle.rng_model.specs.documents.PyxTrees.{Event, a_string, an_end};
-ghost use Rattle.rng_model.specs.documents.Telling.{BeginsDocument};
+ghost use Rattle.rng_model.specs.documents.Telling.{BeginToTell};
 ghost use Rattle.element_events.specs.views.Kept.{Adds, Extends, IsVerdict, Kept, Stands, UnlessOutOfMemory, state_of};
 ghost use Rattle.element_events.specs.views.Told.{call, start_told};
 
@@ -69,7 +69,7 @@ impl ElementEvents {
     ) -> Result<(), EventFault>
         ensures stands { UnlessOutOfMemory result
             (Extends (Hands E.stands events.old events.new) self.old self.new (call place (start_told name.entry attributes.now))) }
-        ensures begins { OnOk result ((calls sent : List Event) → Stands self.new calls sent → BeginsDocument calls sent) }
+        ensures begins { OnOk result ((calls sent : List Event) → Stands self.new calls sent → BeginToTell calls sent) }
         ensures fault { IfErr result (λ f. self.new.fault ≡ Some f) }
         ensures passed { OnOk result (self.new.passed ≡ None) }
         ensures held { OnOk result (self.new.state.text ≡ []) }
@@ -96,7 +96,7 @@ impl ElementEvents {
     pub fn text(&mut self, text: &str) -> Result<(), EventFault>
         ensures stands { (place : ℕ) → UnlessOutOfMemory result (Adds self.old self.new (call place (a_string text.now))) }
         ensures kept { self.old.passed ≡ None → self.new.passed ≡ None }
-        ensures begins { OnOk result ((calls sent : List Event) → Stands self.new calls sent → BeginsDocument calls sent) }
+        ensures begins { OnOk result ((calls sent : List Event) → Stands self.new calls sent → BeginToTell calls sent) }
         ensures fault { IfErr result (λ f. self.new.fault ≡ Some f) }
         ensures working { OnOk result (self.new.fault ≡ None) }
         ensures sticky { IfSome self.old.fault (λ f. (result ≡ Err f) × (self.new ≡ self.old)) }
@@ -111,7 +111,7 @@ impl ElementEvents {
     pub fn pass_text(&mut self, text: &str) -> Result<(), EventFault>
         ensures stands { (place : ℕ) → UnlessOutOfMemory result (Adds self.old self.new (call place (a_string text.now))) }
         ensures held { OnOk result (self.old.state.text ≡ [] → self.new.state.text ≡ []) }
-        ensures begins { OnOk result ((calls sent : List Event) → Stands self.new calls sent → BeginsDocument calls sent) }
+        ensures begins { OnOk result ((calls sent : List Event) → Stands self.new calls sent → BeginToTell calls sent) }
         ensures fault { IfErr result (λ f. self.new.fault ≡ Some f) }
         ensures working { OnOk result (self.new.fault ≡ None) }
         ensures sticky { IfSome self.old.fault (λ f. (result ≡ Err f) × (self.new ≡ self.old)) }
@@ -141,7 +141,7 @@ impl ElementEvents {
         ensures stands { (place : ℕ) → UnlessOutOfMemory result (Adds self.old self.new (call place (a_string text.now))) }
         ensures kept { keeps ≡ true → self.old.passed ≡ None → self.new.passed ≡ None }
         ensures held { OnOk result (keeps ≡ false → self.old.state.text ≡ [] → self.new.state.text ≡ []) }
-        ensures begins { OnOk result ((calls sent : List Event) → Stands self.new calls sent → BeginsDocument calls sent) }
+        ensures begins { OnOk result ((calls sent : List Event) → Stands self.new calls sent → BeginToTell calls sent) }
         ensures fault { IfErr result (λ f. self.new.fault ≡ Some f) }
         ensures working { OnOk result (self.new.fault ≡ None) }
         ensures sticky { IfSome self.old.fault (λ f. (result ≡ Err f) × (self.new ≡ self.old)) }
@@ -165,7 +165,7 @@ impl ElementEvents {
     /// `EventFault::Memory`. Allocates nothing itself. RELAX NG Specification, section 2.
     pub fn end<E: Events>(&mut self, place: u64, events: &mut E) -> Result<(), EventFault>
         ensures stands { UnlessOutOfMemory result (Extends (Hands E.stands events.old events.new) self.old self.new (call place an_end)) }
-        ensures begins { OnOk result ((calls sent : List Event) → Stands self.new calls sent → BeginsDocument calls sent) }
+        ensures begins { OnOk result ((calls sent : List Event) → Stands self.new calls sent → BeginToTell calls sent) }
         ensures fault { IfErr result (λ f. self.new.fault ≡ Some f) }
         ensures passed { OnOk result (self.new.passed ≡ None) }
         ensures held { OnOk result (self.new.state.text ≡ []) }

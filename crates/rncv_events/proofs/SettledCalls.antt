@@ -6,7 +6,7 @@ use Rattle.std.specs.Prelude.{unwrap_or}
 use Rattle.rng_model.specs.documents.EventViews.{Hands}
 use Rattle.rng_model.specs.datatypes.Texts.{is_blank}
 use Rattle.rng_model.specs.documents.PyxTrees.{Event, a_string}
-use Rattle.rng_model.specs.documents.Telling.{BeginsDocument, NoneBegins, string_at}
+use Rattle.rng_model.specs.documents.Telling.{BeginToTell, NoneBegins, string_at}
 use Rattle.rng_model.specs.simple.Table.{Table}
 use Rattle.element_events.specs.views.Kept.{Adds, Extends, IsAfter, IsPassed, Kept, Stands, UnlessOutOfMemory}
 use Rattle.element_events.specs.declared.fault.EventFault.{EventFault}
@@ -45,7 +45,7 @@ module _ (d : Judging) (k : Kept) (c : Event) where
   Extended = (calls sent : List Event) → Stands d.calls calls sent → (es : List Event) × Stands k (calls ++ c ∷ []) (sent ++ es)
 
   extended_is : (r : Result Unit EventFault) → UnlessOutOfMemory r Extended
-      → OnOk r ((calls events : List Event) → Stands k calls events → BeginsDocument calls events)
+      → OnOk r ((calls events : List Event) → Stands k calls events → BeginToTell calls events)
       → (IsErrOf r faults.NotWellFormed → k.fault ≡ Some faults.NotWellFormed) → (calls : List Event) → HasTaken d calls → IsResult r (calls ++ c ∷ [])
   extended_is (Ok x) longer begins fault calls taken =
       let e = longer calls taken.events taken.stands in
@@ -61,7 +61,7 @@ module _ (d : Judging) (k : Kept) (c : Event) where
   led old new (Err faults.Memory) leads = tt
 
   pub result_is : (old new : Matching) (r : Result Unit EventFault) → UnlessOutOfMemory r (LeadsOn old new d.calls k c)
-      → OnOk r ((calls events : List Event) → Stands k calls events → BeginsDocument calls events)
+      → OnOk r ((calls events : List Event) → Stands k calls events → BeginToTell calls events)
       → (IsErrOf r faults.NotWellFormed → k.fault ≡ Some faults.NotWellFormed) → (calls : List Event) → HasTaken d calls → IsResult r (calls ++ c ∷ [])
   result_is old new r leads = extended_is r (led old new r leads)
 
@@ -71,7 +71,7 @@ module _ (d : Judging) (k : Kept) (c : Event) where
   added (Err faults.Memory) adds = tt
 
   pub text_result_is : (r : Result Unit EventFault) → UnlessOutOfMemory r (Adds d.calls k c)
-      → OnOk r ((calls events : List Event) → Stands k calls events → BeginsDocument calls events) → IfErr r (λ f. k.fault ≡ Some f)
+      → OnOk r ((calls events : List Event) → Stands k calls events → BeginToTell calls events) → IfErr r (λ f. k.fault ≡ Some f)
       → (calls : List Event) → HasTaken d calls → IsResult r (calls ++ c ∷ [])
   text_result_is r adds begins fault = extended_is r (added r adds) begins (of_fault k r fault)
 

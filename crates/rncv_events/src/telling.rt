@@ -3,7 +3,7 @@
 ghost use Rattle.std.specs.Prelude.{◌≡◌, ℕ, List, [], Err, IfErr, IfSome, IsErrOf, None, OnOk, Some, false, true};
 ghost use Rattle.rng_model.specs.documents.EventViews.{Hands};
 ghost use Rattle.rng_model.specs.documents.PyxTrees.{Event, a_string, an_end};
-ghost use Rattle.rng_model.specs.documents.Telling.{BeginsDocument, string_at};
+ghost use Rattle.rng_model.specs.documents.Telling.{BeginToTell, string_at};
 ghost use Rattle.rng_deriv_events.specs.views.Inputs.{tests_strings};
 ghost use Rattle.rng_deriv.specs.views.Matchers.{HasGoneOn};
 ghost use Rattle.element_events.specs.views.Kept.{Adds, IsPassed, Stands, UnlessOutOfMemory};
@@ -24,7 +24,7 @@ pub fn tell_text(
     ensures stands { (place : ℕ) → UnlessOutOfMemory result (Adds calls.old calls.new (call place (a_string text.now))) }
     ensures kept { tests_strings ≡ true → calls.old.passed ≡ None → calls.new.passed ≡ None }
     ensures held { OnOk result (tests_strings ≡ false → calls.old.state.text ≡ [] → calls.new.state.text ≡ []) }
-    ensures begins { OnOk result ((told sent : List Event) → Stands calls.new told sent → BeginsDocument told sent) }
+    ensures begins { OnOk result ((told sent : List Event) → Stands calls.new told sent → BeginToTell told sent) }
     ensures fault { IfErr result (λ f. calls.new.fault ≡ Some f) }
     ensures working { OnOk result (calls.new.fault ≡ None) }
 {
@@ -60,7 +60,7 @@ pub fn tell_start(
 ) -> Result<(), EventFault>
     requires { MayPass calls.old.passed matcher.old.progress }
     ensures leads { UnlessOutOfMemory result (LeadsOn matcher.old matcher.new calls.old calls.new (call place (start_told name.entry attributes.now))) }
-    ensures begins { OnOk result ((told sent : List Event) → Stands calls.new told sent → BeginsDocument told sent) }
+    ensures begins { OnOk result ((told sent : List Event) → Stands calls.new told sent → BeginToTell told sent) }
     ensures fault { IsErrOf result EventFault.NotWellFormed → calls.new.fault ≡ Some EventFault.NotWellFormed }
     ensures working { OnOk result (calls.new.fault ≡ None) }
     ensures passed { OnOk result (calls.new.passed ≡ None) }
@@ -78,7 +78,7 @@ pub fn tell_end(
 ) -> Result<(), EventFault>
     requires { MayPass calls.old.passed matcher.old.progress }
     ensures leads { UnlessOutOfMemory result (LeadsOn matcher.old matcher.new calls.old calls.new (call place an_end)) }
-    ensures begins { OnOk result ((told sent : List Event) → Stands calls.new told sent → BeginsDocument told sent) }
+    ensures begins { OnOk result ((told sent : List Event) → Stands calls.new told sent → BeginToTell told sent) }
     ensures fault { IsErrOf result EventFault.NotWellFormed → calls.new.fault ≡ Some EventFault.NotWellFormed }
     ensures working { OnOk result (calls.new.fault ≡ None) }
     ensures passed { OnOk result (calls.new.passed ≡ None) }

@@ -68,14 +68,14 @@ events_told calls = events_behind 0 [] calls
 
 -- ---- documents
 
-abbrev pub IsElement : Placed → Type 0
-IsElement (text_at n s) = ⊥
-IsElement (element_at n q xs kids m) = ⊤
+abbrev pub IsPlacedElement : Placed → Type 0
+IsPlacedElement (text_at n s) = ⊥
+IsPlacedElement (element_at n q xs kids m) = ⊤
 
 -- the calls tell the document of this tree
 pub record TellsDocument (calls : List Event) (tree : Placed) : Type 0 where
   pub good : AllByRecursion (λ c. IsGood c.kind) calls
-  pub element : IsElement tree
+  pub element : IsPlacedElement tree
   pub formed : IsWellFormed (item_of tree)
   pub events : events_told calls ≡ events_of tree
 
@@ -84,7 +84,7 @@ abbrev pub NoneBegins : List Event → Type 0
 NoneBegins calls = (more : List Event) (tree : Placed) → ¬ (TellsDocument (calls ++ more) tree)
 
 -- The calls begin those of a document. The events of each such document begin with these events.
-pub record BeginsDocument (calls : List Event) (sent : List Event) : Type 0 where
+pub record BeginToTell (calls : List Event) (sent : List Event) : Type 0 where
   pub more : List Event
   pub tree : Placed
   pub document : TellsDocument (calls ++ more) tree
