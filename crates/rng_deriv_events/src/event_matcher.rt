@@ -13,7 +13,7 @@ ghost use Rattle.rng_model.specs.documents.PyxTrees as trees;
 ghost use Rattle.rng_model.specs.documents.PyxTrees.{Placed, events_of};
 ghost use Rattle.rng_model.specs.matching.Outcomes.{IsOutcome};
 ghost use Rattle.rng_deriv_events.specs.views.NextEnds.{TellsEnd};
-ghost use Rattle.rng_deriv_events.specs.views.Positions.{IsFailed, IsKnown, IsLost, IsProgressInside};
+ghost use Rattle.rng_deriv_events.specs.views.Positions.{IsFailed, IsKnown, IsLost, IsProgressInside, KeepsTag, StaysInMode};
 ghost use Rattle.rng_model.specs.declared.outcome.Outcome.{Outcome};
 
 use crate::derivatives::Derivatives;
@@ -73,6 +73,7 @@ impl<D: Derivatives + Drop> EventMatcher<D> {
     pub fn new(alloc: Global, derivatives: D) -> Result<Self, OutOfMemory>
         ensures derivatives { IfOk result (λ m. m.0 ≡ derivatives) }
         ensures known { IfOk result (λ m. IsKnown (reading_by (D.basis m.0)) (D.trees m.0) m.1 []) }
+        ensures mode { IfOk result (λ m. KeepsTag false m.1) }
         ensures kept { IfOk result (λ m. ¬ (IsLost m.1)) }
     {
         let nothing = LevelTable::new(alloc, 0);
@@ -85,6 +86,7 @@ impl<D: Derivatives + Drop> EventMatcher<D> {
         requires { HoldsBy AreKept (D.basis derivatives) (D.trees derivatives) table }
         ensures derivatives { IfOk result (λ m. m.0 ≡ derivatives) }
         ensures known { IfOk result (λ m. IsKnown (reading_by (D.basis m.0)) (D.trees m.0) m.1 []) }
+        ensures mode { IfOk result (λ m. KeepsTag false m.1) }
         ensures kept { IfOk result (λ m. ¬ (IsLost m.1)) }
     {
         let start = derivatives.start()?;
@@ -100,6 +102,7 @@ impl<D: Derivatives + Drop> EventMatcher<D> {
             state,
             has_begun: false,
             held: None,
+            keeps_tag: false,
         };
         let position = Box::new(alloc, position)?;
         Ok(EventMatcher {
@@ -114,6 +117,7 @@ impl<D: Derivatives + Drop> EventMatcher<D> {
     pub fn begin_anew(self) -> Result<Self, OutOfMemory>
         ensures derivatives { IfOk result (λ m. m.0 ≡ self.0) }
         ensures known { IfOk result (λ m. IsKnown (reading_by (D.basis m.0)) (D.trees m.0) m.1 []) }
+        ensures mode { IfOk result (λ m. KeepsTag false m.1) }
         ensures kept { IfOk result (λ m. ¬ (IsLost m.1)) }
     {
         let EventMatcher {
@@ -179,6 +183,7 @@ impl<D: Derivatives + Drop> EventMatcher<D> {
             → TellsEnd (reading_by (D.basis self.old.0)) self.old.1 told events) }
         ensures tests { OnOk result (tests_strings self.new.1 ≡ tests_strings self.old.1) }
         ensures failed { (line : ℕ) → IsFailed line self.old.1 → OnOk result (IsFailed line self.new.1) }
+        ensures mode { OnOk result (StaysInMode self.old.1 self.new.1) }
         ensures kept { OnOk result (¬ (IsLost self.new.1)) }
         ensures lost { OnErr result (IsLost self.new.1) }
         ensures again { IsLost self.old.1 → IsErr result }
@@ -197,6 +202,7 @@ impl<D: Derivatives + Drop> EventMatcher<D> {
         ensures known { OnOk result ((events : List trees.Event) → IsKnown (reading_by (D.basis self.old.0)) (D.trees self.old.0) self.old.1 events
             → IsKnown (reading_by (D.basis self.new.0)) (D.trees self.new.0) self.new.1 (events ++ event_of event.entry ∷ [])) }
         ensures failed { (line : ℕ) → IsFailed line self.old.1 → OnOk result (IsFailed line self.new.1) }
+        ensures mode { OnOk result (StaysInMode self.old.1 self.new.1) }
         ensures kept { OnOk result (¬ (IsLost self.new.1)) }
         ensures lost { OnErr result (IsLost self.new.1) }
         ensures again { IsLost self.old.1 → IsErr result }
@@ -213,6 +219,7 @@ impl<D: Derivatives + Drop> EventMatcher<D> {
             → IsKnown (reading_by (D.basis self.old.0)) (D.trees self.old.0) self.old.1 events
             → IsKnown (reading_by (D.basis self.new.0)) (D.trees self.new.0) self.new.1 (events ++ event_at line (trees.a_string text) ∷ [])) }
         ensures failed { (at : ℕ) → IsFailed at self.old.1 → OnOk result (IsFailed at self.new.1) }
+        ensures mode { OnOk result (StaysInMode self.old.1 self.new.1) }
         ensures kept { OnOk result (¬ (IsLost self.new.1)) }
         ensures lost { OnErr result (IsLost self.new.1) }
     {
@@ -227,6 +234,7 @@ impl<D: Derivatives + Drop> EventMatcher<D> {
             → IsKnown (reading_by (D.basis self.old.0)) (D.trees self.old.0) self.old.1 events
             → IsKnown (reading_by (D.basis self.new.0)) (D.trees self.new.0) self.new.1 (events ++ event_at line kind ∷ [])) }
         ensures failed { (at : ℕ) → IsFailed at self.old.1 → OnOk result (IsFailed at self.new.1) }
+        ensures mode { OnOk result (StaysInMode self.old.1 self.new.1) }
         ensures kept { OnOk result (¬ (IsLost self.new.1)) }
         ensures lost { OnErr result (IsLost self.new.1) }
         ensures again { IsLost self.old.1 → IsErr result }

@@ -1,9 +1,9 @@
 // The event after which no continuation is valid.
-ghost use Rattle.std.specs.Prelude.{◌≡◌, IfOk, map};
+ghost use Rattle.std.specs.Prelude.{◌≡◌, IfOk, map, true};
 ghost use Rattle.rng_model.specs.documents.EventViews.{attribute_of};
 ghost use Rattle.rng_model.specs.documents.PyxTrees as trees;
 ghost use Rattle.rng_model.specs.names.NameViews.{name_of};
-ghost use Rattle.rng_deriv_events.specs.views.FailedEvents.{IsCopyOf, IsFailedEvent};
+ghost use Rattle.rng_deriv_events.specs.views.FailedEvents.{IsCopyOf, IsFailedEvent, IsKept, is_told};
 ghost use Rattle.rng_deriv_events.specs.views.Inputs.{IsOf};
 
 use crate::input::Input;
@@ -16,7 +16,10 @@ use std::alloc::Global;
 /// RELAX NG Specification, section 2.
 #[derive(Drop)]
 pub enum FailedEvent {
+    /// A start, for who asked for reasons.
     Start { name: Name, attrs: Vec<Attr> },
+    /// A start of which nothing is kept.
+    UnkeptStart,
     /// A string. What it says is not kept.
     Text,
     End,
@@ -25,10 +28,12 @@ pub enum FailedEvent {
 impl FailedEvent {
     /// Returns a copy. Fails only when out of memory.
     pub fn copied(&self, alloc: Global) -> Result<FailedEvent, OutOfMemory>
-        ensures { IfOk result (IsCopyOf self.now) }
+        ensures copy { IfOk result (IsCopyOf self.now) }
+        ensures told { IfOk result (λ copy. is_told copy ≡ is_told self.now) }
     {
         match self {
             FailedEvent::Start { name, attrs } => copied_start(alloc, name, attrs.as_slice()),
+            FailedEvent::UnkeptStart => Ok(FailedEvent::UnkeptStart),
             FailedEvent::Text => Ok(FailedEvent::Text),
             FailedEvent::End => Ok(FailedEvent::End),
         }
@@ -37,19 +42,43 @@ impl FailedEvent {
 
 /// Returns a copy of a start.
 fn copied_start(alloc: Global, name: &Name, attrs: &[Attr]) -> Result<FailedEvent, OutOfMemory>
-    ensures { IfOk result (λ event. IsFailedEvent event (trees.a_start (name_of name.now) (map attribute_of attrs.now))) }
+    ensures event { IfOk result (λ event. IsFailedEvent event (trees.a_start (name_of name.now) (map attribute_of attrs.now))) }
+    ensures told { IfOk result (λ event. is_told event ≡ true) }
+    ensures whole { IfOk result (IsKept true) }
 {
     let name = copy_of(alloc, name)?;
     let attrs = copied_attributes(alloc, attrs)?;
     Ok(FailedEvent::Start { name, attrs })
 }
 
-/// Returns a copy of what a matcher takes. Fails only when out of memory.
-pub fn failed_event(alloc: Global, input: Input<'_>) -> Result<FailedEvent, OutOfMemory>
-    ensures { IfOk result (λ event. (kind : trees.EventKind) → IsOf input.entry kind → IsFailedEvent event kind) }
+/// Returns what is kept of a start: a copy if `whole`, otherwise nothing of it.
+fn failed_start(
+    alloc: Global,
+    name: &Name,
+    attrs: &[Attr],
+    whole: bool,
+) -> Result<FailedEvent, OutOfMemory>
+    ensures event { IfOk result (λ event. IsFailedEvent event (trees.a_start (name_of name.now) (map attribute_of attrs.now))) }
+    ensures kept { IfOk result (IsKept whole) }
+{
+    if !whole {
+        return Ok(FailedEvent::UnkeptStart);
+    }
+    copied_start(alloc, name, attrs)
+}
+
+/// Returns what is kept of what a matcher takes: a copy of a start if `whole`, otherwise nothing of it. Fails only when out of
+/// memory.
+pub fn failed_event(
+    alloc: Global,
+    input: Input<'_>,
+    whole: bool,
+) -> Result<FailedEvent, OutOfMemory>
+    ensures event { IfOk result (λ event. (kind : trees.EventKind) → IsOf input.entry kind → IsFailedEvent event kind) }
+    ensures kept { IfOk result (IsKept whole) }
 {
     match input {
-        Input::Event(EventKind::Start { name, attrs }) => copied_start(alloc, name, attrs),
+        Input::Event(EventKind::Start { name, attrs }) => failed_start(alloc, name, attrs, whole),
         Input::Event(EventKind::Text(_)) | Input::AnyText { .. } => Ok(FailedEvent::Text),
         Input::Event(EventKind::End) => Ok(FailedEvent::End),
     }

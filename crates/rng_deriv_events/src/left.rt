@@ -37,7 +37,7 @@ pub struct Left {
     pub is_open: bool,
     /// Whether the end tag of the element may come next.
     pub may_end: bool,
-    /// The event after which nothing is left.
+    /// What is kept of the event after which nothing is left.
     pub event: FailedEvent,
 }
 

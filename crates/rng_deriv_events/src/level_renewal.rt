@@ -145,6 +145,7 @@ pub fn renew<D: Derivatives>(
     ensures keeps { OnOk result (Keeps IsPositionKept (D.basis derivatives.old) (D.basis derivatives.new) (D.trees derivatives.new) position.new) }
     ensures renewed { OnOk result (IsPositionRenewed (D.trees derivatives.old) (D.trees derivatives.new) (open_position position.old)
         (open_position position.new)) }
+    ensures mode { OnOk result (position.new.keeps_tag ≡ position.old.keeps_tag) }
 {
     if position.held.is_some() {
         return Ok(());

@@ -7,7 +7,7 @@ ghost use Rattle.rng_deriv_events.specs.views.Inputs.{tests_at, tests_strings};
 ghost use Rattle.rng_deriv_events.specs.views.LevelRenewal.{IsPositionRenewed};
 ghost use Rattle.rng_deriv_events.specs.views.NextEnds.{EndMayCome, TellsEnd};
 ghost use Rattle.rng_deriv_events.specs.views.OpenPositions.{IsPositionKept, open_position};
-ghost use Rattle.rng_deriv_events.specs.views.Positions.{IsFailed, IsKnown, IsLost, IsPositionOf, IsProgressInside};
+ghost use Rattle.rng_deriv_events.specs.views.Positions.{IsFailed, IsKnown, IsLost, IsPositionOf, IsProgressInside, StaysInMode};
 
 use crate::derivatives::Derivatives;
 use crate::left::Mark;
@@ -27,6 +27,7 @@ fn may_end_at<D: Derivatives>(
     ensures same { OnOk result (IsPositionRenewed (D.trees derivatives.old) (D.trees derivatives.new)
         (open_position position.old.value) (open_position position.new.value)) }
     ensures tests { OnOk result (tests_at position.new.value ≡ tests_at position.old.value) }
+    ensures mode { OnOk result (position.new.value.keeps_tag ≡ position.old.value.keeps_tag) }
     ensures ends { IfOk result (λ told. (m : LevelMatcher)
         → IsPositionOf (reading_by (D.basis derivatives.old)) (D.trees derivatives.old) (open_position position.old.value) m
         → (told ≡ true) ↔ EndMayCome (reading_by (D.basis derivatives.old)) m) }
@@ -50,6 +51,7 @@ pub fn may_end<D: Derivatives>(
     ensures ends { IfOk result (λ told. (es : List Event) → IsKnown (reading_by (D.basis derivatives.old)) (D.trees derivatives.old) progress.old es
         → TellsEnd (reading_by (D.basis derivatives.old)) progress.old told es) }
     ensures tests { OnOk result (tests_strings progress.new ≡ tests_strings progress.old) }
+    ensures mode { OnOk result (StaysInMode progress.old progress.new) }
     ensures failed { (at : ℕ) → IsFailed at progress.old → OnOk result (IsFailed at progress.new) }
     ensures kept { OnOk result (¬ (IsLost progress.new)) }
     ensures again { IsLost progress.old → IsErr result }

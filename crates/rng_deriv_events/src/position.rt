@@ -30,6 +30,8 @@ pub struct Position {
     /// Whether the innermost open element has a child element already.
     pub has_begun: bool,
     pub held: Option<Held>,
+    /// Whether a start tag after which nothing is left is to be kept, with its name, attributes and values.
+    pub keeps_tag: bool,
 }
 
 /// Settles the held string, given that an element is beside it. A blank string counts as nothing there (RELAX NG
@@ -41,6 +43,7 @@ fn settle(position: &mut Position)
         → SettlesLevels g m.held m.state (state_of trees (open_state position.new.state)) }
     ensures begun { position.new.has_begun ≡ position.old.has_begun }
     ensures held { position.new.held ≡ None }
+    ensures mode { position.new.keeps_tag ≡ position.old.keeps_tag }
     ensures table { position.new.state.table ≡ position.old.state.table }
 {
     let Some(Held { blank, after }) = position.held.take() else {
@@ -65,6 +68,7 @@ pub fn after_start<D: Derivatives>(
     ensures step { OnOk result (AddsStep (reading_by (D.basis derivatives.old)) (trees.a_start (name_of name.now) (map attribute_of attrs.now))
         (D.trees derivatives.old) (D.trees derivatives.new) (open_position position.old) (open_position position.new)) }
     ensures levels { OnOk result (Grows (levels_in position.old.state.table) (levels_in position.new.state.table)) }
+    ensures mode { OnOk result (position.new.keeps_tag ≡ position.old.keeps_tag) }
 {
     settle(position);
     enter(derivatives, alloc, &mut position.state, name, attrs)?;
@@ -84,6 +88,7 @@ pub fn after_text<D: Derivatives>(
     ensures step { OnOk result (AddsStep (reading_by (D.basis derivatives.old)) (trees.a_string text.now)
         (D.trees derivatives.old) (D.trees derivatives.new) (open_position position.old) (open_position position.new)) }
     ensures levels { OnOk result (Grows (levels_in position.old.state.table) (levels_in position.new.state.table)) }
+    ensures mode { OnOk result (position.new.keeps_tag ≡ position.old.keeps_tag) }
 {
     let now = position.state.now;
     let held = hold(derivatives, alloc, &mut position.state.table, now, text)?;
@@ -105,6 +110,7 @@ pub fn after_any_text<D: Derivatives>(
         (D.trees derivatives.old) (D.trees derivatives.new) (open_position position.old) (open_position position.new)) }
     ensures longer { OnOk result (Longer (D.trees derivatives.old) (D.trees derivatives.new)) }
     ensures levels { OnOk result (Grows (levels_in position.old.state.table) (levels_in position.new.state.table)) }
+    ensures mode { OnOk result (position.new.keeps_tag ≡ position.old.keeps_tag) }
 {
     let now = position.state.now;
     let held = hold_any(derivatives, alloc, &mut position.state.table, now, blank)?;
@@ -123,6 +129,7 @@ pub fn after_end<D: Derivatives>(
     ensures step { OnOk result (AddsStep (reading_by (D.basis derivatives.old)) trees.an_end
         (D.trees derivatives.old) (D.trees derivatives.new) (open_position position.old) (open_position position.new)) }
     ensures levels { OnOk result (Grows (levels_in position.old.state.table) (levels_in position.new.state.table)) }
+    ensures mode { OnOk result (position.new.keeps_tag ≡ position.old.keeps_tag) }
 {
     if position.has_begun {
         settle(position);

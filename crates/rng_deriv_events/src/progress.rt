@@ -1,5 +1,5 @@
 // What is known of a document, event by event.
-ghost use Rattle.std.specs.Prelude.{◌≡◌, ℕ, IfOk, IsErr, OnOk};
+ghost use Rattle.std.specs.Prelude.{◌≡◌, ℕ, Bool, List, None, IfOk, IsErr, OnOk, true};
 ghost use Rattle.rng_model.specs.documents.EventViews.{event_kind_of};
 ghost use Rattle.rng_model.specs.documents.PyxTrees as trees;
 ghost use Rattle.rng_deriv_events.specs.views.Basis.{HoldsBy, Keeps, reading_by};
@@ -8,7 +8,11 @@ ghost use Rattle.rng_deriv_events.specs.views.KeptLevels.{Grows};
 ghost use Rattle.rng_deriv_events.specs.views.LevelTable.{levels_in};
 ghost use Rattle.rng_deriv_events.specs.views.Numbers.{Longer};
 ghost use Rattle.rng_deriv_events.specs.views.OpenPositions.{IsPositionKept, open_position};
-ghost use Rattle.rng_deriv_events.specs.views.Positions.{AddsProgress, AddsStep, HasCome, IsFailed, IsKnown, IsLost, IsProgressInside, progress_at};
+ghost use Rattle.rng_deriv_events.specs.views.Positions.{AddsProgress, AddsStep, HasCome, IsFailed, IsKnown, IsLost, IsProgressInside, KeepsTag};
+ghost use Rattle.rng_deriv_events.specs.views.Positions.{StaysInMode, failed_line, progress_at};
+ghost use Rattle.rng_model.specs.matching.GrammarMatching.{Reading};
+ghost use Rattle.rng_model.specs.simple.Tree.{Simple};
+ghost use Rattle.rng_names.specs.plain.Keys.{Keys};
 
 use crate::derivatives::Derivatives;
 use crate::failed_event::failed_event;
@@ -25,8 +29,8 @@ pub enum Progress {
     /// The document may be valid. The line is that of the last event, or 0. The position is boxed, so that moving what is
     /// known costs little.
     Going { position: Box<Position>, line: u64 },
-    /// No continuation after the event of this line is valid. What was left before it is kept, with the event, boxed for the same
-    /// reason.
+    /// No continuation after the event of this line is valid. What was left before it is kept, with what is kept of the event,
+    /// boxed for the same reason.
     Failed { line: u64, left: Box<Left> },
     /// Nothing is known, since a call ran out of memory.
     Lost,
@@ -44,6 +48,7 @@ fn step<D: Derivatives>(
     ensures step { OnOk result (AddsStep (reading_by (D.basis derivatives.old)) (event_kind_of kind.entry)
         (D.trees derivatives.old) (D.trees derivatives.new) (open_position position.old) (open_position position.new)) }
     ensures levels { OnOk result (Grows (levels_in position.old.state.table) (levels_in position.new.state.table)) }
+    ensures mode { OnOk result (position.new.keeps_tag ≡ position.old.keeps_tag) }
 {
     match kind {
         EventKind::Start { name, attrs } => after_start(derivatives, alloc, position, name, attrs),
@@ -66,6 +71,7 @@ fn step_by<D: Derivatives>(
         (D.trees derivatives.old) (D.trees derivatives.new) (open_position position.old) (open_position position.new)) }
     ensures longer { OnOk result (Longer (D.trees derivatives.old) (D.trees derivatives.new)) }
     ensures levels { OnOk result (Grows (levels_in position.old.state.table) (levels_in position.new.state.table)) }
+    ensures mode { OnOk result (position.new.keeps_tag ≡ position.old.keeps_tag) }
 {
     match input {
         Input::Event(kind) => step(derivatives, alloc, position, kind),
@@ -91,12 +97,13 @@ fn go_on<D: Derivatives>(
         → AddsProgress (reading_by (D.basis derivatives.old)) (event_at line kind)
         (λ events. (line : ℕ) × HasCome (reading_by (D.basis derivatives.old)) (D.trees derivatives.old) (open_position position.old.value) line events)
         (D.trees derivatives.new) (progress_at failed position.new line)) }
+    ensures mode { IfOk result (λ failed. (whole : Bool) → position.old.value.keeps_tag ≡ whole → KeepsTag whole (progress_at failed position.new line)) }
 {
     let position = &mut **position;
     let mark = Mark::of(position);
     step_by(derivatives, alloc, position, input)?;
     if position.state.table.level(position.state.now).dead {
-        let event = failed_event(alloc, input)?;
+        let event = failed_event(alloc, input, position.keeps_tag)?;
         let left = mark.left(derivatives, alloc, &mut position.state.table, event)?;
         return Ok(Some(left));
     }
@@ -118,6 +125,7 @@ pub fn take_input<D: Derivatives>(
     ensures keeps { OnOk result (Keeps IsProgressInside (D.basis derivatives.old) (D.basis derivatives.new) (D.trees derivatives.new) progress.new) }
     ensures progress { OnOk result ((kind : trees.EventKind) → IsOf input.entry kind → AddsProgress (reading_by (D.basis derivatives.old)) (event_at line kind)
         (IsKnown (reading_by (D.basis derivatives.old)) (D.trees derivatives.old) progress.old) (D.trees derivatives.new) progress.new) }
+    ensures mode { OnOk result (StaysInMode progress.old progress.new) }
     ensures failed { (at : ℕ) → IsFailed at progress.old → OnOk result (IsFailed at progress.new) }
     ensures kept { OnOk result (¬ (IsLost progress.new)) }
     ensures again { IsLost progress.old → IsErr result }
@@ -154,4 +162,42 @@ impl Progress {
             Progress::Lost => true,
         }
     }
+
+    /// From now on keeps a start after which nothing is left, with its name, attributes and values. Changes nothing else, and
+    /// nothing where no continuation is valid already. Allocates nothing.
+    pub fn keep_tag(&mut self)
+        ensures inside { (g : Reading) (keys : Keys) (trees : List (Simple ℕ)) → IsProgressInside g keys trees self.old → IsProgressInside g keys trees self.new }
+        ensures known { (g : Reading) (trees : List (Simple ℕ)) (es : List trees.Event) → IsKnown g trees self.old es → IsKnown g trees self.new es }
+        ensures mode { failed_line self.old ≡ None → KeepsTag true self.new }
+        ensures failed { failed_line self.new ≡ failed_line self.old }
+        ensures tests { tests_strings self.new ≡ tests_strings self.old }
+        ensures lost { IsLost self.new → IsLost self.old }
+    {
+        match self {
+            Progress::Going { position, .. } => keep_tag_at(position),
+            Progress::Failed { .. } | Progress::Lost => {}
+        }
+    }
+
+    /// Drops what is kept of an event after which no continuation is valid, and of what was left before it. Then nothing is
+    /// known of the document. Changes nothing where no such event is known. Allocates nothing.
+    pub fn forget_failure(&mut self)
+        ensures inside { (g : Reading) (keys : Keys) (trees : List (Simple ℕ)) → IsProgressInside g keys trees self.old → IsProgressInside g keys trees self.new }
+        ensures gone { failed_line self.new ≡ None }
+    {
+        if let Progress::Failed { .. } = self {
+            *self = Progress::Lost;
+        }
+    }
+}
+
+/// Sets the mode of a position.
+fn keep_tag_at(position: &mut Box<Position>)
+    ensures state { position.new.value.state ≡ position.old.value.state }
+    ensures begun { position.new.value.has_begun ≡ position.old.value.has_begun }
+    ensures held { position.new.value.held ≡ position.old.value.held }
+    ensures mode { position.new.value.keeps_tag ≡ true }
+{
+    let position = &mut **position;
+    position.keeps_tag = true;
 }

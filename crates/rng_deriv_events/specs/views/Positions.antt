@@ -16,7 +16,7 @@ use Rattle.rng_deriv_events.specs.views.States.{state_of, IsStateInside}
 use Rattle.rng_deriv_events.specs.views.Strings.{IsHeld, IsHeldInside}
 use Rattle.rng_deriv_events.specs.views.OpenPositions.{OpenPosition, IsPositionKept, open_position}
 use Rattle.rng_model.specs.matching.Outcomes.{KnowsName, FailsAt}
-use Rattle.rng_deriv_events.specs.views.FailedEvents.{IsFailedEvent}
+use Rattle.rng_deriv_events.specs.views.FailedEvents.{IsFailedEvent, IsKept, is_told}
 use Rattle.rng_deriv_events.specs.views.LevelsLeft.{LevelLeft, left_of}
 use Rattle.rng_deriv_events.specs.views.NextEnds.{LeadToEnd}
 use Rattle.rng_deriv_events.specs.declared.failed_event.FailedEvent.{FailedEvent}
@@ -111,6 +111,22 @@ failed_line progress.Lost = None
 -- no continuation after this line is valid
 abbrev pub IsFailed : ℕ → Progress → Type 0
 IsFailed line p = failed_line p ≡ Some line
+
+-- the start after which nothing is left is kept whole, or will be, exactly if this is true
+abbrev pub KeepsTag : Bool → Progress → Type 0
+KeepsTag whole (progress.Going p line) = p.value.keeps_tag ≡ whole
+KeepsTag whole (progress.Failed line left) = IsKept whole left.value.event
+KeepsTag whole progress.Lost = ⊤
+
+-- whether it is stays so
+abbrev pub StaysInMode : Progress → Progress → Type 0
+StaysInMode old new = (whole : Bool) → KeepsTag whole old → KeepsTag whole new
+
+-- no continuation is valid after an event of which enough is kept to tell why
+abbrev pub tells_reason : Progress → Bool
+tells_reason (progress.Going p line) = false
+tells_reason (progress.Failed line left) = is_told left.value.event
+tells_reason progress.Lost = false
 
 -- a call ran out of memory
 abbrev pub IsLost : Progress → Type 0

@@ -43,7 +43,7 @@ returns-clause-step g c =
     let s = p.state in
     let told = c.in_ok-held.ensures in
     let n : State = record { table = c.hold_any.new.table; now = s.now; carried = s.carried; steps = s.steps } in
-    let r : Position = record { state = n; has_begun = p.has_begun; held = Some c.in_ok-held.held } in
+    let r : Position = record { state = n; has_begun = p.has_begun; held = Some c.in_ok-held.held; keeps_tag = p.keeps_tag } in
     let same = state_grows (reading_by (basis a)) (reading_by (basis d)) (basis a).keys (basis d).keys (trees a) (trees d) told.held.longer s n c.requires.kept.state
     told.keeps.right
     refl refl refl in

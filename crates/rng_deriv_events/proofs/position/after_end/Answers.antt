@@ -30,7 +30,7 @@ returns-then-position-clause-keeps g c =
     let new = g.D.Derivatives.basis c.after_elements.new.derivatives in
     let trees = g.D.Derivatives.trees c.after_elements.new.derivatives in
     let s = c.settle.new.position in
-    let r : Position = record { state = c.after_elements.new.state; has_begun = s.has_begun; held = s.held } in
+    let r : Position = record { state = c.after_elements.new.state; has_begun = s.has_begun; held = s.held; keeps_tag = s.keeps_tag } in
     on_ok_weaker {P = Keeps IsStateKept old new trees r.state} {Q = Keeps IsPositionKept old new trees r} c.after_elements.result
     (λ k. record { basis = k.basis; right = kept_no_string (reading_by new) new.keys trees r c.settle.ensures.held k.right }) c.after_elements.ensures.keeps
 
@@ -42,7 +42,7 @@ returns-then-position-clause-step g c =
     let new = trees c.after_elements.new.derivatives in
     let p = c.args.position.now in
     let s = c.settle.new.position in
-    let r : Position = record { state = c.after_elements.new.state; has_begun = s.has_begun; held = s.held } in
+    let r : Position = record { state = c.after_elements.new.state; has_begun = s.has_begun; held = s.held; keeps_tag = s.keeps_tag } in
     on_ok_weaker {P = AddsState (EndsIf reading (EndsNow reading) (state_of old (open_state s.state))) old new (open_state r.state)}
     {Q = AddsStep reading an_end old new (open_position p) (open_position r)} c.after_elements.result
     (λ e. end_step reading old new (open_position p) (open_state s.state) (open_position r) (λ m of. c.settle.ensures.settles reading old m of) e
@@ -54,7 +54,7 @@ returns-clause-keeps g c =
     record {
       basis = c.in_ok-after_lone_string.ensures.keeps.basis;
       right = kept_no_string (reading_by (g.D.Derivatives.basis d)) (g.D.Derivatives.basis d).keys (g.D.Derivatives.trees d)
-          (record { state = c.after_lone_string.new.state; has_begun = true; held = c.take-string.new.self }) c.take-string.ensures.after
+          (record { state = c.after_lone_string.new.state; has_begun = true; held = c.take-string.new.self; keeps_tag = c.args.position.now.keeps_tag }) c.take-string.ensures.after
           c.in_ok-after_lone_string.ensures.keeps.right;
     }
 
@@ -65,7 +65,7 @@ returns-clause-step g c =
     let old = trees c.args.derivatives.now in
     let new = trees c.after_lone_string.new.derivatives in
     let p = c.args.position.now in
-    let r : Position = record { state = c.after_lone_string.new.state; has_begun = true; held = c.take-string.new.self } in
+    let r : Position = record { state = c.after_lone_string.new.state; has_begun = true; held = c.take-string.new.self; keeps_tag = c.args.position.now.keeps_tag } in
     lone_step reading old new (open_position p) (open_position r)
     (subst (λ h. AddsState (λ n. (s : List ℕ) → IsHeld reading old (numbers_in (levels_in p.state.table) p.state.now.0) (open_string p.state.table h) s
     → EndsIf reading (EndsWith reading s) (state_of old (open_state p.state)) n)

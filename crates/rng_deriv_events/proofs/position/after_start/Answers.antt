@@ -22,7 +22,7 @@ returns-clause-keeps g c =
     record {
       basis = c.in_ok-enter.ensures.keeps.basis;
       right = kept_no_string (reading_by (g.D.Derivatives.basis d)) (g.D.Derivatives.basis d).keys (g.D.Derivatives.trees d)
-          (record { state = c.enter.new.state; has_begun = false; held = settled.held }) c.settle.ensures.held c.in_ok-enter.ensures.keeps.right;
+          (record { state = c.enter.new.state; has_begun = false; held = settled.held; keeps_tag = settled.keeps_tag }) c.settle.ensures.held c.in_ok-enter.ensures.keeps.right;
     }
 
 pub returns-clause-step : goal.returns-clause-step
@@ -31,7 +31,7 @@ returns-clause-step g c =
     let reading = reading_by (g.D.Derivatives.basis c.args.derivatives.now) in
     let old = trees c.args.derivatives.now in
     let settled = c.settle.new.position in
-    let r : Position = record { state = c.enter.new.state; has_begun = false; held = settled.held } in
+    let r : Position = record { state = c.enter.new.state; has_begun = false; held = settled.held; keeps_tag = settled.keeps_tag } in
     starts_step reading (name_of c.args.name.now) (map attribute_of c.args.attrs.now) old (trees c.enter.new.derivatives) (open_position c.args.position.now)
     (open_state settled.state) (open_position r) (λ m of. c.settle.ensures.settles reading old m of)
     c.in_ok-enter.ensures.state refl (held_none r.state.table r.held c.settle.ensures.held)

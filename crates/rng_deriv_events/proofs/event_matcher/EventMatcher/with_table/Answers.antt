@@ -29,6 +29,7 @@ returns-clause-known g c =
       state = record { table = c.level_of.new.table; now = c.in_ok-now.now; carried = c.new.result; steps = c.new-2.result };
       has_begun = false;
       held = None;
+      keeps_tag = false;
     } in
     subst (λ (p : Position). HasCome reading (g.D.Derivatives.trees d) (open_position p) 0 []) (sym c.in_ok-position.ensures.ok)
     (comes_first reading (g.D.Derivatives.trees d) (open_position p) 0 c.in_ok-start.start
