@@ -1,14 +1,15 @@
 -- Why no continuation is valid, by the event that is kept.
-use Rattle.std.proofs.Common.{◌≡◌, ℕ, List, Bool, true, false, Option, Some, None, unwrap_or, refl, sym, ap, subst}
+use Rattle.std.proofs.Common.{◌≡◌, ◌↔◌, ◌∙◌, ℕ, List, Bool, true, false, Option, Some, None, unwrap_or, refl, sym, ap, subst}
 use Rattle.rng_model.specs.simple.Table.{Table}
 use Rattle.rng_model.specs.simple.Tree.{Simple}
 use Rattle.rng_model.specs.documents.PyxTrees.{Event, EventKind, a_start}
 use Rattle.rng_model.specs.matching.Document.{Attribute}
 use Rattle.rng_model.specs.matching.GrammarMatching.{Reading, reading_of}
 use Rattle.rng_model.specs.names.Names.{Name}
-use Rattle.rng_deriv_events.specs.views.FailedEvents.{IsFailedEvent}
+use Rattle.rng_deriv_events.specs.views.FailedEvents.{IsFailedEvent, IsKept, is_told}
 use Rattle.rng_deriv_events.specs.views.Innermost.{innermost_of}
 use Rattle.rng_deriv_events.specs.views.LevelsLeft.{left_of}
+use Rattle.rng_deriv_events.specs.views.Positions.{KeepsTag, failed_line, tells_reason}
 use Rattle.rng_deriv_events.specs.declared.failed_event.FailedEvent.{FailedEvent}
 use Rattle.rng_deriv_events.specs.declared.failed_event.FailedEvent.TheVariants as events
 use Rattle.rng_deriv_events.specs.declared.progress.Progress.{Progress}
@@ -16,7 +17,7 @@ use Rattle.rng_deriv_events.specs.declared.progress.Progress.TheVariants as prog
 use Rattle.rng_reasons.specs.Reasons.{Alternatives, IsEndReason, IsStartReason}
 use Rattle.rng_reasons.specs.declared.reasons.Reason.{Reason}
 use Rattle.rng_reasons.specs.declared.reasons.Reason.TheVariants as reasons
-use Rattle.rng_deriv.specs.views.Followers.{HasEndReason, HasStartReason, HaveLeft, IsEventReason, IsReason, LeaveSuch}
+use Rattle.rng_deriv.specs.views.Followers.{HasEndReason, HasStartReason, HaveLeft, IsEventReason, IsReason, LeaveSuch, TellsNone}
 use Rattle.rng_deriv.specs.views.KeptEvents.{KeepsFailed}
 use Rattle.rng_deriv.specs.views.Matchers.{IsStateBy, Knows, matching_in}
 use Rattle.rng_deriv.specs.declared.matcher_state.MatcherState.{MatcherState}
@@ -99,3 +100,41 @@ text_is g trees may_end kind at left = subst (λ k. IsEventReason g trees k may_
 pub end_is : (g : Reading) (trees : List (Simple ℕ)) (kind : EventKind) → IsFailedEvent events.End kind → (left : Alternatives)
     → IsEventReason g trees kind true left reasons.NothingMatches
 end_is g trees kind at left = subst (λ k. IsEventReason g trees k true left reasons.NothingMatches) (sym at) refl
+
+-- ---- where no reason is told
+
+pub none_is : (g : Reading) (trees : List (Simple ℕ)) (p : Progress) (es : List Event) → tells_reason p ≡ false → IsReason g p trees None es
+none_is g trees (progress.Going p line) es none = refl
+none_is g trees (progress.Failed line left) es none = none
+none_is g trees progress.Lost es none = tt
+
+kept_is_told : (e : FailedEvent) → IsKept true e → is_told e ≡ true
+kept_is_told (events.Start name attrs) kept = refl
+kept_is_told events.UnkeptStart kept = kept
+kept_is_told events.Text kept = refl
+kept_is_told events.End kept = refl
+
+-- to who asked for reasons, no reason is told exactly if none is known
+asked_is : (p : Progress) → KeepsTag true p → (tells_reason p ≡ false) ↔ (failed_line p ≡ None)
+asked_is (progress.Going p line) keeps = (λ none. refl, λ none. refl)
+asked_is (progress.Failed line left) keeps =
+    let told = kept_is_told left.value.event keeps in (λ none. absurd (cc), λ none. absurd (cc))
+asked_is progress.Lost keeps = (λ none. refl, λ none. refl)
+
+tells_none : (p : Progress) (o : Option Reason) → (o ≡ None) ↔ (tells_reason p ≡ false) → TellsNone p o
+tells_none p o none = record {
+  none = none;
+  asked = λ keeps. let both = asked_is p keeps in (λ e. both.0 (none.0 e), λ e. none.1 (both.1 e));
+}
+
+pub none_told : (p : Progress) → tells_reason p ≡ false → TellsNone p None
+none_told p e = tells_none p None (λ same. e, λ none. refl)
+
+pub some_told : (p : Progress) (r : Reason) → true ≡ tells_reason p → TellsNone p (Some r)
+some_told p r e = tells_none p (Some r) (λ same. absurd (cc), λ none. absurd (cc))
+
+-- where no continuation is known to be none
+pub none_known : (p : Progress) → failed_line p ≡ None → tells_reason p ≡ false
+none_known (progress.Going p line) none = refl
+none_known (progress.Failed line left) none = absurd (cc)
+none_known progress.Lost none = refl

@@ -11,6 +11,7 @@ ghost use Rattle.rng_model.specs.matching.Outcomes.{IsOutcome};
 ghost use Rattle.rng_model.specs.datatypes.Texts.{is_blank};
 ghost use Rattle.rng_deriv_events.specs.views.Inputs.{event_at, tests_strings};
 ghost use Rattle.rng_deriv_events.specs.views.NextEnds.{TellsEnd};
+ghost use Rattle.rng_deriv_events.specs.views.Positions.{KeepsTag};
 ghost use Rattle.rng_deriv.specs.views.Matchers.{HasFailedAt, HasGoneOn, HasRunOut, IsStateBy, Knows, judges_by, matching_in};
 ghost use Rattle.rng_model.specs.declared.outcome.Outcome.{Outcome};
 
@@ -25,8 +26,9 @@ use std::marker::Model;
 ///
 /// RELAX NG Specification, sections 6.2, 6.3 and 7. Of a document it keeps numbers of patterns alone: the alternatives
 /// for what remains of the innermost open element, and for each open element the ways out of it. No name, text or
-/// attribute value is copied. What it learns about the grammar depends on keys of names and on outcomes of tests. After
-/// a call runs out of memory, each call fails with that error.
+/// attribute value is copied, but for the start tag after which nothing is left, and only for who asked for reasons
+/// (`MatcherState::want_reasons`). What it learns about the grammar depends on keys of names and on outcomes of tests.
+/// After a call runs out of memory, each call fails with that error.
 #[derive(Drop)]
 pub struct Matcher<'a> {
     matcher: EventMatcher<GrammarDerivatives<'a>>,
@@ -55,6 +57,7 @@ impl<'a> Matcher<'a> {
         ensures grammar { IfOk result (λ m. m.grammar ≡ grammar.now) }
         ensures reading { IfOk result (λ m. judges_by m ≡ reading_of grammar.now) }
         ensures knows { IfOk result (λ m. Knows m []) }
+        ensures mode { IfOk result (λ m. KeepsTag false m.progress) }
         ensures kept { IfOk result (λ m. ¬ (HasRunOut m)) }
     {
         let derivatives = GrammarDerivatives::new(alloc, grammar)?;
@@ -68,6 +71,7 @@ impl<'a> Matcher<'a> {
     pub fn begin_anew(self) -> Result<Self, OutOfMemory>
         ensures grammar { IfOk result (λ m. m.grammar ≡ self.entry.grammar) }
         ensures knows { IfOk result (λ m. Knows m []) }
+        ensures mode { IfOk result (λ m. KeepsTag false m.progress) }
         ensures kept { IfOk result (λ m. ¬ (HasRunOut m)) }
     {
         let matcher = self.matcher.begin_anew()?;

@@ -1,5 +1,5 @@
 -- What may come next behind events.
-use Rattle.std.specs.Prelude.{⊤, ◌≡◌, ℕ, List, Bool, true, false, Option, Some, None, not}
+use Rattle.std.specs.Prelude.{⊤, ◌≡◌, ◌↔◌, ℕ, List, Bool, true, false, Option, Some, None, not}
 use Rattle.rng_model.specs.documents.PyxTrees.{Event, EventKind, a_start, a_string, an_end}
 use Rattle.rng_model.specs.datatypes.Texts.{is_blank}
 use Rattle.rng_model.specs.matching.Document.{Attribute}
@@ -16,8 +16,9 @@ use Rattle.rng_reasons.specs.Reasons.{Alternatives, IsEndReason, IsStartReason}
 use Rattle.rng_reasons.specs.TagOptions.{IsTagOptionsOf, Options}
 use Rattle.rng_reasons.specs.declared.reasons.Reason.{Reason}
 use Rattle.rng_reasons.specs.declared.reasons.Reason.TheVariants as reasons
-use Rattle.rng_deriv_events.specs.views.FailedEvents.{IsFailedEvent}
+use Rattle.rng_deriv_events.specs.views.FailedEvents.{IsFailedEvent, is_told}
 use Rattle.rng_deriv_events.specs.views.NextEnds.{LeadToEnd}
+use Rattle.rng_deriv_events.specs.views.Positions.{KeepsTag, failed_line, tells_reason}
 use Rattle.rng_deriv_events.specs.declared.left.Left.{Left}
 use Rattle.rng_deriv_events.specs.declared.progress.Progress.{Progress}
 use Rattle.rng_deriv_events.specs.declared.progress.Progress.TheVariants as progress
@@ -92,9 +93,15 @@ pub record FailFor (g : Reading) (trees : List (Simple ℕ)) (r : Reason) (es : 
   pub ends : LeadToEnd g may_end fails.before
   pub leave : LeaveSuch g (λ left. IsEventReason g trees fails.kind may_end left r) fails.before
 
--- there is a reason exactly if it is known that no continuation is valid, and it is that of the event
+-- there is a reason exactly if it is known that no continuation is valid, and enough is kept of the event; it is that of the event
 abbrev pub IsReason : Reading → Progress → List (Simple ℕ) → Option Reason → List Event → Type 0
 IsReason g (progress.Going p line) trees reason es = reason ≡ None
-IsReason g (progress.Failed line left) trees None es = ⊥
+IsReason g (progress.Failed line left) trees None es = is_told left.value.event ≡ false
 IsReason g (progress.Failed line left) trees (Some r) es = FailFor g trees r es line
 IsReason g progress.Lost trees reason es = ⊤
+
+-- No reason is told exactly if none is known, or if nothing is kept of the start that it would be about. So it is told of each
+-- event to who asked for reasons before.
+pub record TellsNone (p : Progress) (reason : Option Reason) : Type 0 where
+  pub none : (reason ≡ None) ↔ (tells_reason p ≡ false)
+  pub asked : KeepsTag true p → (reason ≡ None) ↔ (failed_line p ≡ None)

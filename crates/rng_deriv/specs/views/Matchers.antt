@@ -7,7 +7,7 @@ use Rattle.rng_model.specs.matching.GrammarMatching.{Reading, reading_of}
 use Rattle.rng_deriv_table.specs.views.Node.{Node}
 use Rattle.rng_deriv_table.specs.views.Trees.{trees}
 use Rattle.rng_deriv_events.specs.views.Basis.{Basis}
-use Rattle.rng_deriv_events.specs.views.Positions.{IsFailed, IsKnown, IsLost, IsProgressInside}
+use Rattle.rng_deriv_events.specs.views.Positions.{IsFailed, IsKnown, IsLost, IsProgressInside, StaysInMode}
 use Rattle.rng_deriv.specs.views.Serving.{Serves, nodes_of}
 use Rattle.rng_deriv.specs.declared.matcher_state.MatcherState.{MatcherState}
 use Rattle.rng_deriv_events.specs.declared.progress.Progress.{Progress}
@@ -42,12 +42,13 @@ abbrev pub HasRunOut : Matching → Type 0
 HasRunOut m = IsLost m.progress
 
 -- These events lead from the first to the second. They have the same grammar. What the second knows represents the
--- events that the first had, followed by these. If the first has failed, so has the second. The second has run out of
--- memory only if the first had.
+-- events that the first had, followed by these. If the first has failed, so has the second. Both keep a start after which
+-- nothing is left, or neither does. The second has run out of memory only if the first had.
 pub record HasGoneOn (first m : Matching) (es : List Event) : Type 0 where
   pub grammar : m.grammar ≡ first.grammar
   pub knows : (before : List Event) → Knows first before → Knows m (before ++ es)
   pub failed : (line : ℕ) → HasFailedAt first line → HasFailedAt m line
+  pub mode : StaysInMode first.progress m.progress
   pub kept : HasRunOut m → HasRunOut first
 
 -- a state, with the grammar

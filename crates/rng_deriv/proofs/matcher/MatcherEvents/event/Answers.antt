@@ -7,7 +7,8 @@ use Rattle.rng_deriv.proofs.matcher.MatcherEvents.event.Goals as goal
 
 pub returns-clause-stands : goal.returns-clause-stands
 returns-clause-stands c = goes_on (matching_of c.self.inside.matcher) c.args.self.now c.self.view_is (matching_of c.take.new.self)
-    (event_of c.args.event) c.take.result (same_grammar c.take.result c.take.new.self.0.0 c.self.inside.matcher.0.0 c.take.ensures.basis) c.take.ensures.known c.take.ensures.failed c.take.ensures.kept
+    (event_of c.args.event) c.take.result (same_grammar c.take.result c.take.new.self.0.0 c.self.inside.matcher.0.0 c.take.ensures.basis) c.take.ensures.known c.take.ensures.failed
+    c.take.ensures.mode c.take.ensures.kept
 
 pub returns-clause-knows : goal.returns-clause-knows
 returns-clause-knows c = subst (λ (m : Matching). OnOk c.take.result ((es : List Event) → Knows m es

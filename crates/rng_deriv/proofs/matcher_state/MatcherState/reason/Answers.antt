@@ -1,16 +1,18 @@
-use Rattle.std.proofs.Common.{◌∙◌, IfSome, Some, true, false, map, ap, subst, sym}
+use Rattle.std.proofs.Common.{◌≡◌, ◌∙◌, IfSome, Some, true, false, map, ap, refl, subst, sym}
 use Rattle.rng_model.specs.documents.EventViews.{attribute_of}
 use Rattle.rng_model.specs.documents.PyxTrees.{a_start}
 use Rattle.rng_model.specs.matching.GrammarMatching.{reading_of}
 use Rattle.rng_model.specs.names.NameViews.{name_of}
-use Rattle.rng_deriv_events.specs.views.FailedEvents.{IsFailedEvent}
+use Rattle.rng_deriv_events.specs.views.FailedEvents.{IsFailedEvent, is_told}
+use Rattle.rng_deriv_events.specs.views.Positions.{tells_reason}
 use Rattle.rng_deriv_events.specs.declared.failed_event.FailedEvent.{FailedEvent}
 use Rattle.rng_deriv_events.specs.declared.failed_event.FailedEvent.TheVariants as events
 use Rattle.rng_reasons.specs.declared.reasons.Reason.{Reason}
+use Rattle.rng_reasons.specs.declared.reasons.Reason.TheVariants as reasons
 use Rattle.rng_deriv.specs.views.Followers.{IsReason}
 use Rattle.rng_deriv.specs.views.KeptEvents.{KeepsFailed}
 use Rattle.rng_deriv.specs.views.Matchers.{matching_in, trees_in}
-use Rattle.rng_deriv.proofs.FailedReasons.{end_is, end_told, nothing_told, start_told, text_is}
+use Rattle.rng_deriv.proofs.FailedReasons.{end_is, end_told, none_is, none_told, nothing_told, some_told, start_told, text_is}
 use Rattle.rng_deriv.proofs.matcher_state.MatcherState.reason.Goals as goal
 
 pub returns-in_ok-reason-in-Start-clause-reason : goal.returns-in_ok-reason-in-Start-clause-reason
@@ -52,3 +54,39 @@ returns-in-Text-clause-reason c = λ es known.
     let keeps : KeepsFailed events.Text c.in-Some.may_end s.progress = subst (λ e. KeepsFailed e c.in-Some.may_end s.progress) c.in-Text.is
     (subst (λ o. IfSome o (λ e. KeepsFailed e.0 e.1 s.progress)) c.in-Some.is c.in_ok-event.ensures.event) in
     nothing_told t s c.requires new events.Text c.in-Some.may_end (text_is (reading_of t) new c.in-Some.may_end) keeps es known
+
+pub returns-in_ok-reason-in-Start-clause-none : goal.returns-in_ok-reason-in-Start-clause-none
+returns-in_ok-reason-in-Start-clause-none c =
+    let p = c.args.self.now.progress in
+    let told = subst (λ o. IfSome o (λ e. is_told e.0 ≡ tells_reason p)) c.in-Some.is c.in_ok-event.ensures.told in
+    some_told p c.unwrap_or.result (subst (λ e. is_told e ≡ tells_reason p) c.in-Start.is told)
+
+pub returns-in_ok-reason-in-End-clause-none : goal.returns-in_ok-reason-in-End-clause-none
+returns-in_ok-reason-in-End-clause-none c =
+    let p = c.args.self.now.progress in
+    let told = subst (λ o. IfSome o (λ e. is_told e.0 ≡ tells_reason p)) c.in-Some.is c.in_ok-event.ensures.told in
+    some_told p c.in_ok-reason-in-End.reason (subst (λ e. is_told e ≡ tells_reason p) c.in-End.is told)
+
+pub returns-then-may_end-clause-none : goal.returns-then-may_end-clause-none
+returns-then-may_end-clause-none c =
+    let p = c.args.self.now.progress in
+    let told = subst (λ o. IfSome o (λ e. is_told e.0 ≡ tells_reason p)) c.in-Some.is c.in_ok-event.ensures.told in
+    some_told p reasons.NothingMatches (subst (λ e. is_told e ≡ tells_reason p) c.in-End.is told)
+
+pub returns-in-Text-clause-none : goal.returns-in-Text-clause-none
+returns-in-Text-clause-none c =
+    let p = c.args.self.now.progress in
+    let told = subst (λ o. IfSome o (λ e. is_told e.0 ≡ tells_reason p)) c.in-Some.is c.in_ok-event.ensures.told in
+    some_told p reasons.NothingMatches (subst (λ e. is_told e ≡ tells_reason p) c.in-Text.is told)
+
+pub returns-in-UnkeptStart-clause-none : goal.returns-in-UnkeptStart-clause-none
+returns-in-UnkeptStart-clause-none c =
+    let p = c.args.self.now.progress in
+    let told = subst (λ o. IfSome o (λ e. is_told e.0 ≡ tells_reason p)) c.in-Some.is c.in_ok-event.ensures.told in
+    none_told p (sym (subst (λ e. is_told e ≡ tells_reason p) c.in-UnkeptStart.is told))
+
+pub returns-in-UnkeptStart-clause-reason : goal.returns-in-UnkeptStart-clause-reason
+returns-in-UnkeptStart-clause-reason c = λ es known.
+    let t = c.args.grammar.now in
+    let s = c.args.self.now in
+    none_is (reading_of t) (trees_in (matching_in t s)) s.progress es ((returns-in-UnkeptStart-clause-none c).none.0 refl)
