@@ -34,6 +34,7 @@ use Rattle.pyx.proofs.Input.ReaderAfterPiece.{fed_stuck}
 use Rattle.pyx.proofs.ReaderOutcome.{is_fault_after}
 use Rattle.rng_deriv.specs.declared.matcher_state.MatcherState.{MatcherState}
 use Rattle.rng_deriv_events.proofs.KnownDocuments.{fails_there, names_there}
+use Rattle.rng_deriv_events.specs.views.Positions.{KeepsTag, StaysInMode}
 use Rattle.rng_deriv_table.specs.views.Trees.{trees}
 use Rattle.rng_deriv.specs.views.Matchers.{HasFailedAt, HasGoneOn, HasRunOut, IsStateBy, Knows, Matching, judges_by, matching_in}
 use Rattle.rncv_validator.specs.plain.Judging.{IsUnknownTo, verdict_of}
@@ -78,7 +79,7 @@ Says m o = (t : Placed) → IsElementTree t → Knows m (events_of t) → IsOutc
 
 -- a taker that was given the events has taken them
 pub gone : (a b : Matching) (es : List Event) → Hands HasGoneOn a b es → HasGoneOn a b es
-gone a b es h = h a [] (record { grammar = refl; knows = λ before k. subst (Knows a) (sym (append-nil before)) k; failed = λ line f. f; kept = λ lost. lost })
+gone a b es h = h a [] (record { grammar = refl; knows = λ before k. subst (Knows a) (sym (append-nil before)) k; failed = λ line f. f; mode = λ whole k. k; kept = λ lost. lost })
 
 module _ (d : Judging) (old new : Matching) (there : old ≡ d.matching) (types : TypeSet) (s : Schema) (judges : JudgesWith types d.grammar s)
     (bytes : List ℕ) (fed : HasBeenFed d bytes) where
@@ -142,6 +143,12 @@ module _ (d e : Judging) (old new : Matching) (there : old ≡ d.matching) (now 
 
   pub since_kept : IfSome (failed_since d) (λ line. failed_since e ≡ Some line)
   since_kept = of_some (failed_since d) stays_failed
+
+  -- a start is kept as before
+  pub stays_in_mode : StaysInMode d.matching.progress e.matching.progress
+  stays_in_mode whole keeps =
+      let on = gone old new longer.0 longer.1 in
+      subst (λ (m : Matching). KeepsTag whole m.progress) now (on.mode whole (subst (λ (m : Matching). KeepsTag whole m.progress) (sym there) keeps))
 
 -- the matcher that continues a document has the state that is kept for it
 pub resumed : (g now : Table) (o : Option MatcherState) (s : MatcherState) (m : Matching) (k : Kept) (f : Option DocumentFault) (d : Judging)

@@ -1,5 +1,5 @@
 // Documents that are judged piece by piece.
-ghost use Rattle.std.specs.Prelude.{◌≡◌, ◌↔◌, ◌⊎◌, ◌+◌, ◌^◌, ◌<◌, ◌++◌, ℕ, List, IfErr, IfOk, IfSome, OnErr, OnOk, Some, None, Err, length};
+ghost use Rattle.std.specs.Prelude.{◌≡◌, ◌⊎◌, ◌+◌, ◌^◌, ◌<◌, ◌++◌, ℕ, List, IfErr, IfOk, IfSome, OnErr, OnOk, Some, None, Err, length, true};
 ghost use Rattle.std.specs.Bool.{OnTrue};
 ghost use Rattle.rng_model.specs.schema.Schema.{Schema};
 ghost use Rattle.rncv_model.specs.answers.Verdict.{IsUnknownIn, IsMalformedVerdict};
@@ -15,7 +15,8 @@ ghost use Rattle.rncv_validator.specs.views.Documents.{failed_since, told_by};
 ghost use Rattle.rncv_validator.specs.views.FedDocuments.{verdict_by};
 ghost use Rattle.pyx.specs.views.Calls.{Extends};
 ghost use Rattle.rng_model.specs.documents.EventViews.{Hands};
-ghost use Rattle.rng_deriv.specs.views.Followers.{IsReason, MayFollow};
+ghost use Rattle.rng_deriv_events.specs.views.Positions.{KeepsTag, StaysInMode};
+ghost use Rattle.rng_deriv.specs.views.Followers.{IsReason, MayFollow, TellsNone};
 ghost use Rattle.rng_deriv.specs.views.Matchers.{HasGoneOn, trees_in};
 ghost use Rattle.rng_expected.specs.views.Next.{next_of};
 ghost use Rattle.rng_model.specs.matching.GrammarMatching.{reading_of};
@@ -37,7 +38,8 @@ const TOO_MANY_BYTES: u64 = 1 << 63;
 
 /// A document that is judged piece by piece by the schema of a validator.
 ///
-/// It keeps only a tag, a text, the open elements, and what the matcher keeps.
+/// It keeps only a tag, a text, the open elements, and what the matcher keeps: for who asked for reasons (`want_reasons`) also
+/// the start tag after which nothing is left.
 #[derive(Drop)]
 pub struct Document {
     pub(crate) alloc: Global,
@@ -82,6 +84,7 @@ impl Document {
         ensures working { OnOk result (self.new.fault ≡ None) }
         ensures sticky { IfSome self.old.fault (λ f. (result ≡ Err f) × (self.new ≡ self.old)) }
         ensures since { IfSome (failed_since self.old) (λ line. UnlessMemory result (failed_since self.new ≡ Some line)) }
+        ensures mode { UnlessMemory result (StaysInMode self.old.matching.progress self.new.matching.progress) }
     {
         if let Some(fault) = self.fault {
             return Err(fault);
@@ -148,8 +151,26 @@ impl Document {
         Ok(expected)
     }
 
+    /// From now on keeps the start tag after which nothing is left, until the document ends, so that `reason` can tell why: its
+    /// name, and its attributes with their values. If `invalid_since` returns a line already, nothing is kept of the event.
+    ///
+    /// What was fed stays. Allocates nothing.
+    pub fn want_reasons(&mut self)
+        ensures grammar { self.new.grammar ≡ self.old.grammar }
+        ensures fed { (bytes : List ℕ) → HasBeenFed self.old bytes → HasBeenFed self.new bytes }
+        ensures fault { self.new.fault ≡ self.old.fault }
+        ensures since { failed_since self.new ≡ failed_since self.old }
+        ensures wanted { failed_since self.old ≡ None → KeepsTag true self.new.matching.progress }
+    {
+        let Some(mut state) = self.state.take() else {
+            return;
+        };
+        state.want_reasons();
+        put_back(&mut self.state, state);
+    }
+
     /// Returns why no continuation is valid after the event at the line of `invalid_since`, or `None` exactly if `invalid_since`
-    /// returns none.
+    /// returns none, or if nothing is kept of the event: of a start, unless `want_reasons` was called before.
     ///
     /// It is stated on what was left of the pattern before that event (`Reason`), as `expected` is. It is `NothingMatches` if by
     /// the patterns the event leaves something, but no document with it is valid. What was fed stays. Fails only when out of
@@ -161,7 +182,7 @@ impl Document {
         ensures same { OnOk result ((self.new.fault ≡ self.old.fault) × (self.new.matching.progress ≡ self.old.matching.progress)) }
         ensures reason { IfOk result (λ reason. (bytes : List ℕ) (fed : HasBeenFed self.old bytes)
             → IsReason (reading_of self.old.grammar) self.old.matching.progress (trees_in self.new.matching) reason fed.events) }
-        ensures none { IfOk result (λ reason. (reason ≡ None) ↔ (failed_since self.old ≡ None)) }
+        ensures none { IfOk result (TellsNone self.old.matching.progress) }
         ensures failed { OnErr result (self.new.fault ≡ Some DocumentFault.Memory) }
     {
         let Some(mut state) = self.state.take() else {
@@ -183,7 +204,7 @@ impl Document {
     /// it is `Invalid` with a line. No document that begins with the lines up to this line is valid. No start that is
     /// reported before this line has a name that no element of the schema's simple form may have. The verdict is an error
     /// only if this call, or an earlier call for the document, ran out of memory. Costs what the events of the last tag
-    /// or text cost.
+    /// or text cost. The validator keeps nothing of an event after which no continuation was valid.
     pub fn finish(self) -> (Validator, Result<Verdict, OutOfMemory>)
         ensures grammar { result.0 ≡ self.grammar }
         ensures verdict { IfOk result.1 (λ v. (s : Schema) (bytes : List ℕ) → Judges self.grammar s → HasBeenFed self bytes → IsVerdictOn s bytes v) }
@@ -200,33 +221,20 @@ impl Document {
             fault,
         } = self;
         let Some(state) = state else {
-            return (
-                Validator {
-                    grammar,
-                    state: None,
-                },
-                Err(OutOfMemory),
-            );
+            return (Validator::of_parts(grammar, None), Err(OutOfMemory));
         };
         if let Some(fault) = fault {
             drop(reader);
-            let state = Some(state);
-            return (Validator { grammar, state }, told(fault));
+            return (Validator::of_parts(grammar, Some(state)), told(fault));
         }
         let mut matcher = Matcher::resume(alloc, &grammar, state);
         let ended = reader.finish(&mut matcher);
         if let Ok(verdict) = verdict(ended, matcher.outcome()) {
             let state = Some(matcher.into_state());
-            return (Validator { grammar, state }, Ok(verdict));
+            return (Validator::of_parts(grammar, state), Ok(verdict));
         }
         drop(matcher);
-        (
-            Validator {
-                grammar,
-                state: None,
-            },
-            Err(OutOfMemory),
-        )
+        (Validator::of_parts(grammar, None), Err(OutOfMemory))
     }
 }
 

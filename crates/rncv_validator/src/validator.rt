@@ -1,5 +1,5 @@
 // Compiled schemas.
-ghost use Rattle.std.specs.Prelude.{◌≡◌, ◌<◌, [], length, IfErr, IfOk, IfSome, Some};
+ghost use Rattle.std.specs.Prelude.{◌≡◌, ◌<◌, [], false, length, IfErr, IfOk, IfSome, Some};
 ghost use Rattle.rng_model.specs.schema.Schema.{Schema};
 ghost use Rattle.rng_model.specs.simple.Table.{grammar_of};
 ghost use Rattle.rng_model.specs.restrictions.RestrictionFaults.{BreaksNone};
@@ -10,6 +10,7 @@ ghost use Rattle.rncv_model.specs.printed.SchemaText.{IsPrintedForm};
 ghost use Rattle.rncv_validator.specs.views.Validators.{IsOneFor, IsOneForWith, JudgesWith};
 ghost use Rattle.rncv_validator.specs.views.FedDocuments.{HasBeenFed, IsFresh};
 ghost use Rattle.rncv_validator.specs.declared.fault.DocumentFault.{DocumentFault};
+ghost use Rattle.rng_deriv_events.specs.views.Positions.{KeepsTag};
 ghost use Rattle.rng_deriv.specs.views.Matchers.{HasRunOut, IsStateBy};
 
 use crate::compiling::good_grammar;
@@ -27,7 +28,8 @@ use std::sync::Arc;
 /// A compiled schema, with what its matcher has learned from the documents that it has judged.
 ///
 /// What a validator keeps from one document to the next makes the next one cheaper and changes no verdict. It has no
-/// name, text or attribute value of a document. Its size is bounded as for one document.
+/// name, text or attribute value of a document, and nothing of an event after which no continuation was valid. Its size
+/// is bounded as for one document.
 #[derive(Drop)]
 pub struct Validator {
     pub(crate) grammar: Arc<SimpleGrammar>,
@@ -39,6 +41,7 @@ impl Model for Validator {
     ghost use Rattle.rng_model.specs.simple.Table.{Table, grammar_of};
     ghost use Rattle.rng_model.specs.restrictions.RestrictionFaults.{BreaksNone};
     ghost use Rattle.rng_deriv.specs.views.Matchers.{IsStateBy};
+    ghost use Rattle.rncv_validator.specs.views.FedDocuments.{KeepsNoEvent};
     ghost use Rattle.rng_model.specs.contracts.name.NameClass as classes;
     ghost use Rattle.std.specs.Coded.{codes};
 
@@ -48,7 +51,7 @@ impl Model for Validator {
 
     ghost view = { λ v. v.grammar.value };
 
-    ghost invariant = { λ v. (BreaksNone (grammar_of v.grammar.value)) × (IfSome v.state (IsStateBy v.grammar.value)) };
+    ghost invariant = { λ v. (BreaksNone (grammar_of v.grammar.value)) × (IfSome v.state (IsStateBy v.grammar.value)) × (IfSome v.state KeepsNoEvent) };
 }
 
 impl Validator {
@@ -97,7 +100,8 @@ impl Validator {
         }
     }
 
-    /// Begins a document. The document takes the validator, and returns it when it is finished.
+    /// Begins a document. The document takes the validator, and returns it when it is finished. It keeps no start tag after
+    /// which nothing is left, unless `Document::want_reasons` is called.
     ///
     /// Allocates memory for the first document, in proportion to the schema. If this fails, each call of `feed` and
     /// `finish` returns that error. The first document costs a look-up by hashing for each pattern of the schema, the
@@ -105,6 +109,7 @@ impl Validator {
     pub fn document(self, alloc: Global) -> Document
         ensures grammar { result.grammar ≡ self }
         ensures begun { HasBeenFed result [] }
+        ensures mode { KeepsTag false result.matching.progress }
         ensures fault { IfSome result.fault (λ f. f ≡ DocumentFault.Memory) }
         ensures kept { HasRunOut result.matching → result.fault ≡ Some DocumentFault.Memory }
     {
@@ -138,7 +143,7 @@ impl Validator {
     }
 
     /// Returns the validator of a grammar that `into_parts` returned, with the state of a matcher by it, which may have
-    /// had events, or with `None`.
+    /// had events, or with `None`. What the state keeps of an event after which no continuation is valid is dropped.
     ///
     /// RELAX NG Specification, sections 5 and 7. Allocates nothing.
     pub fn of_parts(grammar: Arc<SimpleGrammar>, state: Option<MatcherState>) -> Validator
@@ -146,6 +151,14 @@ impl Validator {
         requires state { IfSome state (IsStateBy grammar.value) }
         ensures { result ≡ grammar.value }
     {
+        let Some(mut state) = state else {
+            return Validator {
+                grammar,
+                state: None,
+            };
+        };
+        state.forget();
+        let state = Some(state);
         Validator { grammar, state }
     }
 
@@ -184,7 +197,7 @@ fn first_name(files: &[(String, Vec<u8>)]) -> &str
     }
 }
 
-/// Returns the state of a matcher that has had no event yet, with what an earlier one has learned, if there was one.
+/// Returns the state of a matcher that has had no event yet and keeps no start, with what an earlier one has learned, if there was one.
 /// Returns `None` when out of memory.
 fn fresh_state(
     alloc: Global,

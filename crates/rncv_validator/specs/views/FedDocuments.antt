@@ -1,5 +1,5 @@
 -- What a document keeps of what was fed. Calls hand it on.
-use Rattle.std.specs.Prelude.{◌≡◌, ℕ, List, [], Option, Some, None, Result, Ok, Err}
+use Rattle.std.specs.Prelude.{◌≡◌, ℕ, List, [], false, Option, Some, None, Result, Ok, Err}
 use Rattle.rng_model.specs.simple.Table.{Table}
 use Rattle.rng_model.specs.documents.PyxTrees.{Event}
 use Rattle.rng_model.specs.declared.fault.OutOfMemory.{OutOfMemory}
@@ -10,6 +10,7 @@ use Rattle.rng_model.specs.declared.pyx_fault.PyxFault.TheVariants as pyx
 use Rattle.pyx.specs.views.ReaderAfterPiece.{Kept, Stands}
 use Rattle.rng_deriv.specs.views.Matchers.{HasRunOut, IsStateBy, Knows, Matching, matching_in}
 use Rattle.rng_deriv.specs.declared.matcher_state.MatcherState.{MatcherState}
+use Rattle.rng_deriv_events.specs.views.Positions.{KeepsTag, failed_line}
 use Rattle.rng_deriv_events.specs.declared.progress.Progress.TheVariants as progress
 use Rattle.rncv_model.specs.declared.verdict.Verdict.{Verdict}
 use Rattle.rncv_model.specs.declared.verdict.Verdict.TheVariants.{Valid, Malformed, Invalid}
@@ -35,10 +36,11 @@ pub record HasBeenFed (d : Judging) (bytes : List ℕ) : Type 0 where
   pub reads : Stands d.reader bytes events
   pub knows : Knows d.matching events
 
--- the state is that of a matcher by this grammar that has had no event yet
+-- the state is that of a matcher by this grammar that has had no event yet, and that keeps no start
 pub record IsFresh (t : Table) (s : MatcherState) : Type 0 where
   pub state : IsStateBy t s
   pub knows : Knows (matching_in t s) []
+  pub mode : KeepsTag false s.progress
   pub kept : ¬ (HasRunOut (matching_in t s))
 
 -- the fault is the reader's, or out of memory
@@ -58,6 +60,10 @@ IsKeptFault k (Some s) f = IsReaderFault k f
 -- the state is not that of a matcher that has run out of memory
 abbrev pub HasNotRunOut : Table → MatcherState → Type 0
 HasNotRunOut t s = ¬ (HasRunOut (matching_in t s))
+
+-- nothing is kept of an event after which no continuation is valid
+abbrev pub KeepsNoEvent : MatcherState → Type 0
+KeepsNoEvent s = failed_line s.progress ≡ None
 
 -- the verdict on a document, given how reading ended and the outcome of the matcher
 abbrev pub verdict_by : {A : Type 0} → Result A PyxFault → Result Outcome OutOfMemory → Result Verdict OutOfMemory

@@ -7,7 +7,7 @@ use Rattle.rng_deriv.specs.views.Matchers.{HasGoneOn}
 use Rattle.rncv_validator.specs.views.Documents.{UnlessMemory}
 use Rattle.rncv_validator.specs.views.FedDocuments.{HasNotRunOut, IsFaultOfReader, Judging, matching_of}
 use Rattle.rncv_validator.proofs.FedDocuments.{fault_of_fed, fault_put, fault_there, gone, grammar_put, kept_put, known_put, none_kept, piece_fed, resumed}
-use Rattle.rncv_validator.proofs.FedDocuments.{since_kept, state_put, state_there, stuck_fed}
+use Rattle.rncv_validator.proofs.FedDocuments.{since_kept, state_put, state_there, stays_in_mode, stuck_fed}
 use Rattle.rncv_validator.proofs.document.Document.feed.Goals as goal
 
 pub returns-in-Some-clause-fed : goal.returns-in-Some-clause-fed
@@ -81,6 +81,24 @@ returns-in-Ok-clause-since c =
     c.args.piece.now
     (subst (λ (j : Judging). Extends (Hands HasGoneOn old new) j.reader c.read_piece.new.reader c.args.piece.now) c.self.view_is longer)
 
+pub returns-in-Ok-clause-mode : goal.returns-in-Ok-clause-mode
+returns-in-Ok-clause-mode c =
+    let d = c.self.inside in
+    let g = d.grammar.value in
+    let old = c.resume-matcher.result in
+    let new = c.read_piece.new.matcher in
+    let longer = c.in-Ok.ensures.extends in
+    let on = (gone old new longer.0 longer.1).grammar in
+    let s = c.in-Some-take.state in
+    let kept = c.into_state.result in
+    let place = c.put_back.new.place in
+    stays_in_mode c.args.self.now (record { grammar = g; reader = c.read_piece.new.reader; matching = matching_of g place; fault = d.fault }) old new
+    (resumed g c.deref.result.now d.state s old d.reader d.fault c.args.self.now c.self.view_is (search rules) c.deref.ensures c.resume-matcher.ensures)
+    (known_put g c.deref.result.now s kept old new c.deref.ensures c.resume-matcher.ensures on place c.put_back.ensures c.into_state.ensures.same)
+    (grammar_put g c.deref.result.now s kept old new c.deref.ensures c.resume-matcher.ensures on place c.put_back.ensures)
+    c.args.piece.now
+    (subst (λ (j : Judging). Extends (Hands HasGoneOn old new) j.reader c.read_piece.new.reader c.args.piece.now) c.self.view_is longer)
+
 pub invariant_of-self-in-Err-Malformed : goal.invariant_of-self-in-Err-Malformed
 invariant_of-self-in-Err-Malformed c =
     let d = c.self.inside in
@@ -133,6 +151,25 @@ returns-in-Err-Malformed-clause-since c =
     let kept = c.into_state-in-Err-Malformed.result in
     let place = c.put_back-in-Err-Malformed.new.place in
     since_kept c.args.self.now (record { grammar = g; reader = c.read_piece.new.reader; matching = matching_of g place; fault = Some (faults.Malformed c.in-Err-Malformed.clause c.in-Err-Malformed.line) }) old new
+    (resumed g c.deref.result.now d.state s old d.reader d.fault c.args.self.now c.self.view_is (search rules) c.deref.ensures c.resume-matcher.ensures)
+    (known_put g c.deref.result.now s kept old new c.deref.ensures c.resume-matcher.ensures on place c.put_back-in-Err-Malformed.ensures c.into_state-in-Err-Malformed.ensures.same)
+    (grammar_put g c.deref.result.now s kept old new c.deref.ensures c.resume-matcher.ensures on place c.put_back-in-Err-Malformed.ensures)
+    c.args.piece.now
+    (subst (λ (j : Judging). Extends (Hands HasGoneOn old new) j.reader c.read_piece.new.reader c.args.piece.now) c.self.view_is longer)
+
+pub returns-in-Err-Malformed-clause-mode : goal.returns-in-Err-Malformed-clause-mode
+returns-in-Err-Malformed-clause-mode c =
+    let d = c.self.inside in
+    let g = d.grammar.value in
+    let old = c.resume-matcher.result in
+    let new = c.read_piece.new.matcher in
+    let longer = subst (λ (f : DocumentFault). UnlessMemory {A = Unit {0}} (Err f) (Extends (Hands HasGoneOn old new) d.reader c.read_piece.new.reader c.args.piece.now))
+    c.in-Err-Malformed.field-0-is c.in-Err-Malformed.ensures.extends in
+    let on = (gone old new longer.0 longer.1).grammar in
+    let s = c.in-Some-take.state in
+    let kept = c.into_state-in-Err-Malformed.result in
+    let place = c.put_back-in-Err-Malformed.new.place in
+    stays_in_mode c.args.self.now (record { grammar = g; reader = c.read_piece.new.reader; matching = matching_of g place; fault = Some (faults.Malformed c.in-Err-Malformed.clause c.in-Err-Malformed.line) }) old new
     (resumed g c.deref.result.now d.state s old d.reader d.fault c.args.self.now c.self.view_is (search rules) c.deref.ensures c.resume-matcher.ensures)
     (known_put g c.deref.result.now s kept old new c.deref.ensures c.resume-matcher.ensures on place c.put_back-in-Err-Malformed.ensures c.into_state-in-Err-Malformed.ensures.same)
     (grammar_put g c.deref.result.now s kept old new c.deref.ensures c.resume-matcher.ensures on place c.put_back-in-Err-Malformed.ensures)

@@ -12,16 +12,14 @@ use Rattle.rncv_validator.proofs.FedDocuments.{HoldsWith, ended_grammar, ended_s
 use Rattle.rncv_validator.proofs.FedDocuments.{resumed, state_kept}
 use Rattle.rncv_validator.proofs.document.Document.finish.Goals as goal
 
-pub invariant_of-result-in-Ok : goal.invariant_of-result-in-Ok
-invariant_of-result-in-Ok c =
+pub of_parts-in-Ok-requires-clause-state : goal.of_parts-in-Ok-requires-clause-state
+of_parts-in-Ok-requires-clause-state c =
     let d = c.self.inside in
     let old = c.resume-matcher.result in
-    let new = c.finish-ended.new.events in (
-      c.self.invariant.0,
-      state_kept d.grammar.value c.deref.result.now c.in-Some.state c.into_state.result old new c.deref.ensures c.resume-matcher.ensures
-          (ended_grammar d.reader old new c.finish-ended.result c.outcome.result c.in-Ok.verdict c.finish-ended.ensures.document
-          (sym c.verdict.ensures ∙ c.in-Ok.is)) c.into_state.ensures.state,
-    )
+    let new = c.finish-ended.new.events in
+    state_kept d.grammar.value c.deref.result.now c.in-Some.state c.into_state.result old new c.deref.ensures c.resume-matcher.ensures
+    (ended_grammar d.reader old new c.finish-ended.result c.outcome.result c.in-Ok.verdict c.finish-ended.ensures.document
+    (sym c.verdict.ensures ∙ c.in-Ok.is)) c.into_state.ensures.state
 
 pub returns-in-Ok-clause-verdict_with : goal.returns-in-Ok-clause-verdict_with
 returns-in-Ok-clause-verdict_with c =
