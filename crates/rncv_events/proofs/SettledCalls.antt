@@ -14,6 +14,7 @@ use Rattle.element_events.specs.declared.fault.EventFault.TheVariants as faults
 use Rattle.element_events.proofs.Passed.{some_passed}
 use Rattle.element_events.proofs.Taken.{none_more}
 use Rattle.rng_deriv_events.specs.views.Inputs.{event_at, tests_strings}
+use Rattle.rng_deriv_events.specs.views.Positions.{KeepsTag, StaysInMode}
 use Rattle.rng_deriv.specs.declared.matcher_state.MatcherState.{MatcherState}
 use Rattle.rng_deriv.specs.views.Matchers.{HasFailedAt, HasGoneOn, HasRunOut, IsStateBy, Knows, Matching, matching_in}
 use Rattle.rncv_validator.specs.views.FedDocuments.{HasNotRunOut, IsFresh, matching_of}
@@ -29,6 +30,10 @@ pub begun : (g : Table) (k : Kept) (o : Option MatcherState) (f : Option EventFa
     → HasTaken (record { grammar = g; calls = k; matching = matching_of g o; fault = f }) []
 begun g k None f stands fresh = record { by_grammar = refl; events = []; stands = stands; knows = tt }
 begun g k (Some s) f stands fresh = record { by_grammar = refl; events = []; stands = stands; knows = fresh.knows }
+
+pub begun_mode : (g : Table) (o : Option MatcherState) → IfSome o (IsFresh g) → KeepsTag false (matching_of g o).progress
+begun_mode g None fresh = tt
+begun_mode g (Some s) fresh = fresh.mode
 
 -- ---- the result of a call
 
@@ -184,6 +189,17 @@ module _ (g now : Table) (s : MatcherState) (old new : Matching) (same : now ≡
     since_settled (Err faults.NotWellFormed) longer p = of_some (failed_since d) (λ at f.
         still_failed longer (known_put g now s p.0.kept old new same is (on longer).grammar place p.0.is p.0.same) at f)
     since_settled (Err faults.Memory) longer p = of_some (failed_since d) (λ at f. tt)
+
+    -- a start is kept as before
+    in_mode : (longer : Longer) → new ≡ matching_of g place → StaysInMode d.matching.progress After.matching.progress
+    in_mode longer now whole keeps = subst (λ (m : Matching). KeepsTag whole m.progress) now
+        ((on longer).mode whole (subst (λ (m : Matching). KeepsTag whole m.progress) (sym there) keeps))
+
+    pub mode_settled : (r : Result Unit EventFault) → UnlessOutOfMemory r Longer → IsSettled r new earlier place fault
+        → UnlessOutOfMemory r (StaysInMode d.matching.progress After.matching.progress)
+    mode_settled (Ok x) longer p = in_mode longer (known_put g now s p.0.kept old new same is (on longer).grammar place p.0.is p.0.same)
+    mode_settled (Err faults.NotWellFormed) longer p = in_mode longer (known_put g now s p.0.kept old new same is (on longer).grammar place p.0.is p.0.same)
+    mode_settled (Err faults.Memory) longer p = tt
 
 -- the matcher that continues a document has the state that is kept for it
 pub resumed_there : (g now : Table) (o : Option MatcherState) (s : MatcherState) (m : Matching) (k : Kept) (f : Option EventFault) (d : Judging)

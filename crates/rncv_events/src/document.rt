@@ -1,5 +1,5 @@
 // Documents that are told by calls.
-ghost use Rattle.std.specs.Prelude.{◌≡◌, ◌↔◌, ◌⊎◌, [], ◌∷◌, ◌++◌, ℕ, List, IfErr, IfOk, IfSome, IsErrOf, OnErr, OnOk, Some, None, Err, false, length, map, unwrap_or};
+ghost use Rattle.std.specs.Prelude.{◌≡◌, ◌⊎◌, [], ◌∷◌, ◌++◌, ℕ, List, IfErr, IfOk, IfSome, IsErrOf, OnErr, OnOk, Some, None, Err, false, length, map, true, unwrap_or};
 ghost use Rattle.std.specs.Option.{option_map};
 ghost use Rattle.rng_model.specs.schema.Schema.{Schema};
 ghost use Rattle.rng_model.specs.xsd.SchemasWith.{IsValidBySchemaWith};
@@ -10,7 +10,8 @@ ghost use Rattle.rng_model.specs.matching.GrammarMatching.{reading_of};
 ghost use Rattle.rng_expected.specs.views.Next.{next_of, tag_of};
 ghost use Rattle.rng_reasons.specs.views.Options.{options_of};
 ghost use Rattle.rng_deriv_events.specs.views.Inputs.{tests_strings};
-ghost use Rattle.rng_deriv.specs.views.Followers.{HasEndReason, HasStartReason, HasTagOptions, IsReason, MayFollow, MayHave, MayReplace};
+ghost use Rattle.rng_deriv_events.specs.views.Positions.{KeepsTag, StaysInMode};
+ghost use Rattle.rng_deriv.specs.views.Followers.{HasEndReason, HasStartReason, HasTagOptions, IsReason, MayFollow, MayHave, MayReplace, TellsNone};
 ghost use Rattle.rng_deriv.specs.views.Matchers.{Knows, trees_in};
 ghost use Rattle.rng_deriv_events.specs.views.NextEnds.{TellsEnd};
 ghost use Rattle.rncv_events.specs.views.Ending.{IsWhyNoEnd};
@@ -74,10 +75,12 @@ impl EventDocument {
     ///
     /// Allocates memory for the first document, in proportion to the schema. If this fails, each call returns
     /// `EventFault::Memory`. The first document costs a look-up by hashing for each pattern of the schema, the next ones
-    /// cost nothing. RELAX NG Specification, section 6.
+    /// cost nothing. It keeps no start after which nothing is left, unless `want_reasons` is called. RELAX NG Specification,
+    /// section 6.
     pub fn new(alloc: Global, validator: Validator) -> Self
         ensures grammar { result.grammar ≡ validator }
         ensures begun { HasTaken result [] }
+        ensures mode { KeepsTag false result.matching.progress }
         ensures fault { IfSome result.fault (λ f. f ≡ EventFault.Memory) }
     {
         let (grammar, state) = validator.into_parts(alloc);
@@ -112,6 +115,7 @@ impl EventDocument {
         ensures working { OnOk result (self.new.fault ≡ None) }
         ensures sticky { IfSome self.old.fault (λ f. (result ≡ Err f) × (self.new ≡ self.old)) }
         ensures since { IfSome (failed_since self.old) (λ at. UnlessOutOfMemory result (failed_since self.new ≡ Some at)) }
+        ensures mode { UnlessOutOfMemory result (StaysInMode self.old.matching.progress self.new.matching.progress) }
     {
         if let Some(fault) = self.fault {
             return Err(fault);
@@ -138,6 +142,7 @@ impl EventDocument {
         ensures working { OnOk result (self.new.fault ≡ None) }
         ensures sticky { IfSome self.old.fault (λ f. (result ≡ Err f) × (self.new ≡ self.old)) }
         ensures since { failed_since self.new ≡ failed_since self.old }
+        ensures mode { StaysInMode self.old.matching.progress self.new.matching.progress }
     {
         if let Some(fault) = self.fault {
             return Err(fault);
@@ -166,6 +171,7 @@ impl EventDocument {
         ensures working { OnOk result (self.new.fault ≡ None) }
         ensures sticky { IfSome self.old.fault (λ f. (result ≡ Err f) × (self.new ≡ self.old)) }
         ensures since { IfSome (failed_since self.old) (λ at. UnlessOutOfMemory result (failed_since self.new ≡ Some at)) }
+        ensures mode { UnlessOutOfMemory result (StaysInMode self.old.matching.progress self.new.matching.progress) }
     {
         if let Some(fault) = self.fault {
             return Err(fault);
@@ -190,6 +196,7 @@ impl EventDocument {
         ensures sticky { IfSome self.old.fault (λ _. self.new ≡ self.old) }
         ensures stuck { IfSome self.old.fault (IsStuck self.old) }
         ensures since { failed_since self.new ≡ failed_since self.old }
+        ensures mode { StaysInMode self.old.matching.progress self.new.matching.progress }
     {
         if let Some(fault) = self.fault {
             return fault;
@@ -292,6 +299,7 @@ impl EventDocument {
         attributes: &[Attribute<'_>],
     ) -> Result<Option<Reason>, OutOfMemory>
         ensures knows { StillKnows self.old self.new }
+        ensures mode { StaysInMode self.old.matching.progress self.new.matching.progress }
         ensures same { OnOk result ((self.new.fault ≡ self.old.fault) × (self.new.matching.progress ≡ self.old.matching.progress)) }
         ensures reason { IfOk result (λ reason. (calls : List Event) (taken : HasTaken self.old calls)
             → HasStartReason (reading_of self.old.grammar) self.old.matching.progress (trees_in self.new.matching)
@@ -343,6 +351,7 @@ impl EventDocument {
     ) -> Result<Option<TagOptions<'g>>, OutOfMemory>
         requires { grammar.now ≡ self.old.grammar }
         ensures knows { StillKnows self.old self.new }
+        ensures mode { StaysInMode self.old.matching.progress self.new.matching.progress }
         ensures same { OnOk result ((self.new.fault ≡ self.old.fault) × (self.new.matching.progress ≡ self.old.matching.progress)) }
         ensures options { IfOk result (λ o. (calls : List Event) (taken : HasTaken self.old calls)
             → HasTagOptions (reading_of self.old.grammar) self.old.matching.progress (trees_in self.new.matching)
@@ -377,6 +386,7 @@ impl EventDocument {
     /// Specification, section 6.2.7.
     pub fn end_reason(&mut self) -> Result<Option<Reason>, OutOfMemory>
         ensures knows { StillKnows self.old self.new }
+        ensures mode { StaysInMode self.old.matching.progress self.new.matching.progress }
         ensures same { OnOk result (self.new.fault ≡ self.old.fault) }
         ensures reason { IfOk result (λ reason. (calls : List Event) (taken : HasTaken self.old calls)
             → IsWhyNoEnd (reading_of self.old.grammar) self.old.matching.progress self.new.matching.progress reason taken.events) }
@@ -389,7 +399,27 @@ impl EventDocument {
         Ok(Some(reason))
     }
 
-    /// Returns why no continuation is valid after the call of `invalid_since`, or `None` exactly if `invalid_since` returns none.
+    /// From now on keeps the start after which nothing is left, until the document ends, so that `reason` can tell why: its
+    /// name, and its attributes with their values. If `invalid_since` returns a place already, nothing is kept of that call.
+    /// Whoever has the start at hand can ask `start_reason` instead.
+    ///
+    /// The calls that were taken stay. Allocates nothing.
+    pub fn want_reasons(&mut self)
+        ensures grammar { self.new.grammar ≡ self.old.grammar }
+        ensures taken { (calls : List Event) → HasTaken self.old calls → HasTaken self.new calls }
+        ensures fault { self.new.fault ≡ self.old.fault }
+        ensures since { failed_since self.new ≡ failed_since self.old }
+        ensures wanted { failed_since self.old ≡ None → KeepsTag true self.new.matching.progress }
+    {
+        let Some(mut state) = self.state.take() else {
+            return;
+        };
+        state.want_reasons();
+        self.state = Some(state);
+    }
+
+    /// Returns why no continuation is valid after the call of `invalid_since`, or `None` exactly if `invalid_since` returns none,
+    /// or if nothing is kept of the call: of a start, unless `want_reasons` was called before.
     ///
     /// It is what `start_reason` or `end_reason` returns for that start or end, or `NothingMatches` where they find none: by the
     /// patterns it leaves something, but no document with it is valid. The calls that were taken stay. Fails only when out of
@@ -397,10 +427,11 @@ impl EventDocument {
     /// `MatcherState::reason` costs. RELAX NG Specification, sections 6.2.7 and 6.2.8.
     pub fn reason(&mut self) -> Result<Option<Reason>, OutOfMemory>
         ensures knows { StillKnows self.old self.new }
+        ensures mode { StaysInMode self.old.matching.progress self.new.matching.progress }
         ensures same { OnOk result ((self.new.fault ≡ self.old.fault) × (self.new.matching.progress ≡ self.old.matching.progress)) }
         ensures reason { IfOk result (λ reason. (calls : List Event) (taken : HasTaken self.old calls)
             → IsReason (reading_of self.old.grammar) self.old.matching.progress (trees_in self.new.matching) reason taken.events) }
-        ensures none { IfOk result (λ reason. (reason ≡ None) ↔ (failed_since self.old ≡ None)) }
+        ensures none { IfOk result (TellsNone self.old.matching.progress) }
         ensures failed { OnErr result (self.new.fault ≡ Some EventFault.Memory) }
     {
         let Some(mut state) = self.state.take() else {
@@ -417,6 +448,7 @@ impl EventDocument {
     /// Returns whether an end may come next, or could have come before the event after which no continuation is valid.
     fn may_end(&mut self) -> Result<bool, OutOfMemory>
         ensures knows { StillKnows self.old self.new }
+        ensures mode { StaysInMode self.old.matching.progress self.new.matching.progress }
         ensures same { OnOk result (self.new.fault ≡ self.old.fault) }
         ensures tells { IfOk result (λ told. (calls : List Event) (taken : HasTaken self.old calls)
             → TellsEnd (reading_of self.old.grammar) self.old.matching.progress told taken.events) }
@@ -462,7 +494,8 @@ impl EventDocument {
     /// the files as they are written, with the set of datatypes that the schema was compiled with. Otherwise it is
     /// `Invalid` with the place of a start or an end. No document that begins with the calls up to that one is valid. No
     /// start before it has a name that no element of the schema's simple form may have. Fails with `EventFault::Memory`
-    /// only if an earlier call did. Allocates nothing. Costs a test of each alternative.
+    /// only if an earlier call did. The validator keeps nothing of an event after which no continuation was valid. Allocates
+    /// nothing. Costs a test of each alternative.
     pub fn finish(self) -> (Validator, Result<Outcome, EventFault>)
         ensures grammar { result.0 ≡ self.grammar }
         ensures answer { (types : TypeSet) (s : Schema) (calls : List Event) → JudgesWith types self.grammar s → HasTaken self calls

@@ -3,12 +3,13 @@ use Rattle.rng_model.specs.documents.PyxTrees.{Event}
 use Rattle.element_events.specs.views.Kept.{UnlessOutOfMemory}
 use Rattle.element_events.specs.declared.fault.EventFault.{EventFault}
 use Rattle.element_events.specs.views.Told.{call, start_told}
+use Rattle.rng_deriv_events.specs.views.Positions.{StaysInMode}
 use Rattle.rncv_validator.specs.views.FedDocuments.{HasNotRunOut, matching_of}
 use Rattle.rncv_validator.proofs.FedDocuments.{state_there}
 use Rattle.rncv_events.specs.Answers.{IsResult}
 use Rattle.rncv_events.specs.views.Leading.{LeadsOn}
 use Rattle.rncv_events.specs.views.Told.{HasTaken, IsFaultOfCalls, Judging, Takes, failed_since}
-use Rattle.rncv_events.proofs.SettledCalls.{fault_of_calls, fault_settled, fault_told, held_settled, kept_settled, may_pass, none_told, passed_settled, result_is, resumed_there, since_settled}
+use Rattle.rncv_events.proofs.SettledCalls.{fault_of_calls, fault_settled, fault_told, held_settled, kept_settled, may_pass, mode_settled, none_told, passed_settled, result_is, resumed_there, since_settled}
 use Rattle.rncv_events.proofs.SettledCalls.{state_settled, stuck_result, stuck_taken, taken_settled}
 use Rattle.rncv_events.proofs.document.EventDocument.start.Goals as goal
 
@@ -84,6 +85,24 @@ returns-clause-since c =
     subst (λ (r : Result Unit EventFault). IfSome (failed_since c.args.self.now) (λ at. UnlessOutOfMemory r
     (failed_since (record { grammar = g; calls = k; matching = matching_of g place; fault = fault }) ≡ Some at))) (sym c.settle.ensures.same)
     (since_settled g c.deref.result.now s old new c.deref.ensures c.resume-matcher.ensures d.calls k e d.fault place fault c.args.self.now there
+    (ap (λ (j : Judging). j.calls) c.self.view_is) r c.tell_start-answer.ensures.leads c.settle.ensures.settled)
+
+pub returns-clause-mode : goal.returns-clause-mode
+returns-clause-mode c =
+    let d = c.self.inside in
+    let g = d.grammar.value in
+    let s = c.in-Some-take.state in
+    let old = c.resume-matcher.result in
+    let new = c.tell_start-answer.new.matcher in
+    let k = c.tell_start-answer.new.calls in
+    let r = c.tell_start-answer.result in
+    let place = c.settle.new.place in
+    let fault = c.settle.new.fault in
+    let e = (call c.args.place (start_told c.args.name c.args.attributes.now)) in
+    let there = resumed_there g c.deref.result.now d.state s old d.calls d.fault c.args.self.now c.self.view_is (search rules) c.deref.ensures c.resume-matcher.ensures in
+    subst (λ (r : Result Unit EventFault). UnlessOutOfMemory r (StaysInMode c.args.self.now.matching.progress (matching_of g place).progress))
+    (sym c.settle.ensures.same)
+    (mode_settled g c.deref.result.now s old new c.deref.ensures c.resume-matcher.ensures d.calls k e d.fault place fault c.args.self.now there
     (ap (λ (j : Judging). j.calls) c.self.view_is) r c.tell_start-answer.ensures.leads c.settle.ensures.settled)
 
 pub returns-clause-answer : goal.returns-clause-answer
