@@ -19,6 +19,7 @@ ghost use Rattle.rncv_c_handles.specs.views.Events as of_events;
 ghost use Rattle.rncv_c_handles.specs.views.Expected.{HoldsNoDocument, IsExpectationIn, IsTagText};
 ghost use Rattle.rncv_c_handles.specs.views.Options.{HasNoOptions, IsOfTexts, IsOptionsText, StillHasTaken, beginning_in};
 ghost use Rattle.rncv_c_handles.specs.views.Reasons.{IsHeldBy, IsReplacementText, TellsEndReason, TellsFedReason, TellsReason, TellsStartReason};
+ghost use Rattle.rncv_c_handles.specs.views.Reasons.{WantsFedReasons, WantsReasons};
 ghost use Rattle.rncv_c_values.specs.views.Files.{AreNamed, files_of, main_of};
 ghost use Rattle.rncv_c_handles.specs.views.Held.{document_in, events_in, grammar_in, schema_in};
 ghost use Rattle.rncv_c_values.specs.views.Mentions.{AreMentionsOf, IsRefusedAlone};
@@ -507,8 +508,25 @@ pub extern "C" fn rncv_events_end_reason(
     }
 }
 
+/// Asks for reasons of the document that the handle holds, in PYX or of events: from now on it keeps the start after which
+/// nothing is left, with its name, attributes and values, until it ends.
+///
+/// Returns 0 on success; 4 exactly if no document is begun. Allocates nothing.
+#[unsafe(no_mangle)]
+pub extern "C" fn rncv_want_reasons(alloc: Global, schema: &mut Handle) -> i32
+    ensures events { result ≡ pos 0 → IfSome (events_in schema.old.held) (λ d. IsSomeAnd (events_in schema.new.held) (WantsReasons d)) }
+    ensures document { result ≡ pos 0 → IfSome (document_in schema.old.held) (λ d. IsSomeAnd (document_in schema.new.held) (WantsFedReasons d)) }
+    ensures misuse { (result ≡ pos 4) ↔ HoldsNoDocument schema.old.held }
+    ensures others { result ≢ pos 4 → result ≡ pos 0 }
+    ensures kept { grammar_in schema.new.held ≡ grammar_in schema.old.held }
+    ensures failed { result ≡ pos 4 → schema.new.held ≡ schema.old.held }
+{
+    reasons::want_reasons(alloc, schema).code()
+}
+
 /// Reports in `reason` why no continuation is valid of the document that the handle holds, in PYX or of events, or that none is
-/// known to be: what the call for that start or end reports, or kind 8 if it finds none.
+/// told: none is known to be, or nothing is kept of the start, since `rncv_want_reasons` was not called before. It is what the
+/// call for that start or end reports, or kind 8 if it finds none.
 ///
 /// Returns 0 on success; 3 when out of memory, in this call or in an earlier one for the document, and then each later call
 /// returns it; 4 exactly if no document is begun. Costs what `Document::reason` or `EventDocument::reason` costs. RELAX NG

@@ -6,6 +6,7 @@ ghost use Rattle.rncv_c_values.specs.views.Texts.{IsTooLong, IsWritten};
 ghost use Rattle.rncv_c_handles.specs.views.Expected.{HoldsNoDocument};
 ghost use Rattle.rncv_c_handles.specs.views.Held.{document_in, events_in, grammar_in};
 ghost use Rattle.rncv_c_handles.specs.views.Reasons.{IsHeldBy, IsReplacementText, TellsEndReason, TellsFedReason, TellsReason, TellsStartReason};
+ghost use Rattle.rncv_c_handles.specs.views.Reasons.{WantsFedReasons, WantsReasons};
 
 use crate::handle::{Handle, Held};
 use expected_text::expected_text;
@@ -113,7 +114,50 @@ fn end_numbers(document: &mut EventDocument) -> Result<ReasonNumbers, Status>
     }
 }
 
-/// Reports why no continuation of the document that the handle holds is valid, if that is known.
+/// Asks for reasons of the document that the handle holds: from now on it keeps the start after which nothing is left, until it
+/// ends.
+///
+/// Returns `Misuse` exactly if no document is begun. Allocates nothing.
+pub fn want_reasons(alloc: Global, schema: &mut Handle) -> Status
+    ensures events { result ≡ Status.Done → IfSome (events_in schema.old.held) (λ d. IsSomeAnd (events_in schema.new.held) (WantsReasons d)) }
+    ensures document { result ≡ Status.Done → IfSome (document_in schema.old.held) (λ d. IsSomeAnd (document_in schema.new.held) (WantsFedReasons d)) }
+    ensures misuse { (result ≡ Status.Misuse) ↔ HoldsNoDocument schema.old.held }
+    ensures others { result ≢ Status.Misuse → result ≡ Status.Done }
+    ensures kept { grammar_in schema.new.held ≡ grammar_in schema.old.held }
+    ensures failed { result ≡ Status.Misuse → schema.new.held ≡ schema.old.held }
+{
+    let Some(mut held) = schema.take(alloc) else {
+        return Status::Misuse;
+    };
+    let status = match &mut *held {
+        Held::Events(document) => want_told_reasons(document),
+        Held::Document(document) => want_fed_reasons(document),
+        Held::Schema(_) => Status::Misuse,
+    };
+    schema.put(held);
+    status
+}
+
+/// Asks for reasons of a document of events.
+fn want_told_reasons(document: &mut EventDocument) -> Status
+    ensures status { result ≡ Status.Done }
+    ensures wants { WantsReasons document.old document.new }
+{
+    document.want_reasons();
+    Status::Done
+}
+
+/// Asks for reasons of a document in PYX.
+fn want_fed_reasons(document: &mut Document) -> Status
+    ensures status { result ≡ Status.Done }
+    ensures wants { WantsFedReasons document.old document.new }
+{
+    document.want_reasons();
+    Status::Done
+}
+
+/// Reports why no continuation of the document that the handle holds is valid, if that is known, and if enough is kept of the
+/// event: of a start, only if `want_reasons` was called before.
 ///
 /// Fails with `Misuse` exactly if no document is begun; otherwise with `Memory` when out of memory, in this call or in an earlier
 /// one for the document; then each later call fails too. Costs what `Document::reason` or `EventDocument::reason` costs.

@@ -1,5 +1,5 @@
 -- What the calls on a document return in numbers, given what the functions of `Document` return.
-use Rattle.std.specs.Prelude.{◌≡◌, ◌⊎◌, ℕ, ℤ, List, [], ◌++◌, Some, None, Result, Ok, Err, IfErr, IfOk, IfSome, OnOk, unwrap_or}
+use Rattle.std.specs.Prelude.{◌≡◌, ◌⊎◌, ℕ, ℤ, List, [], ◌++◌, false, Some, None, Result, Ok, Err, IfErr, IfOk, IfSome, OnOk, unwrap_or}
 use Rattle.rng_model.specs.schema.Schema.{Schema}
 use Rattle.rng_model.specs.declared.fault.OutOfMemory.{OutOfMemory}
 use Rattle.rng_model.specs.declared.type_set.TypeSet.{TypeSet}
@@ -9,6 +9,7 @@ use Rattle.rng_model.specs.matching.SchemaMatching.{IsValidBySchema}
 use Rattle.rng_model.specs.xsd.SchemasWith.{IsValidBySchemaWith}
 use Rattle.rncv_model.specs.declared.verdict.Verdict.{Verdict}
 use Rattle.rncv_model.specs.declared.verdict.Verdict.TheVariants.{Invalid}
+use Rattle.rng_deriv_events.specs.views.Positions.{KeepsTag, StaysInMode}
 use Rattle.rncv_validator.specs.views.Documents.{HaveEnded, IsFaultOfFed, IsHopelessFrom, KnowsStarts, UnlessMemory, failed_since, told_by}
 use Rattle.rncv_validator.specs.views.FedDocuments.{HasBeenFed, Judging}
 use Rattle.rncv_validator.specs.views.Validators.{Judges, JudgesWith}
@@ -20,9 +21,10 @@ use Rattle.rncv_c_values.specs.declared.status.Status.{Status}
 use Rattle.rncv_c_values.specs.declared.status.Status.TheVariants as status
 use Rattle.rncv_c_values.specs.declared.told.Judgement.{Judgement}
 
--- nothing is fed yet, and there is no fault
+-- nothing is fed yet, there is no fault, and no start is kept
 pub record HasBegun (document : Judging) : Type 0 where
   pub fed : HasBeenFed document []
+  pub mode : KeepsTag false document.matching.progress
   pub working : document.fault ≡ None
 
 -- the status for the result of `Document::feed`
@@ -41,6 +43,7 @@ pub record HasTaken (piece : List ℕ) (number : ℤ) (old new : Judging) : Type
   pub working : OnOk answer (new.fault ≡ None)
   pub sticky : IfSome old.fault (λ f. (answer ≡ Err f) × (new ≡ old))
   pub since : IfSome (failed_since old) (λ line. UnlessMemory answer (failed_since new ≡ Some line))
+  pub mode : UnlessMemory answer (StaysInMode old.matching.progress new.matching.progress)
 
 -- the status for the result of `Document::finish`
 abbrev pub status_of_end : Result Verdict OutOfMemory → Status

@@ -1,5 +1,5 @@
 -- What the calls on a document of events return in numbers, given what the functions of `EventDocument` return.
-use Rattle.std.specs.Prelude.{◌≡◌, ℕ, ℤ, pos, List, [], ◌∷◌, ◌++◌, Some, None, Result, Ok, Err, IfErr, IfOk, IfSome, IsErrOf, OnOk, unwrap_or}
+use Rattle.std.specs.Prelude.{◌≡◌, ℕ, ℤ, pos, List, [], ◌∷◌, ◌++◌, false, Some, None, Result, Ok, Err, IfErr, IfOk, IfSome, IsErrOf, OnOk, unwrap_or}
 use Rattle.rng_model.specs.schema.Schema.{Schema}
 use Rattle.rng_model.specs.documents.PyxTrees.{Event, EventKind}
 use Rattle.rng_model.specs.declared.outcome.Outcome.{Outcome}
@@ -7,6 +7,7 @@ use Rattle.rng_model.specs.declared.outcome.Outcome.TheVariants as outcomes
 use Rattle.rng_model.specs.declared.type_set.TypeSet.{TypeSet}
 use Rattle.rng_model.specs.xsd.SchemasWith.{IsValidBySchemaWith}
 use Rattle.rncv_model.specs.answers.Verdict.{IsUnknownIn}
+use Rattle.rng_deriv_events.specs.views.Positions.{KeepsTag, StaysInMode}
 use Rattle.rncv_validator.specs.views.Validators.{JudgesWith}
 use Rattle.element_events.specs.views.Kept.{UnlessOutOfMemory}
 use Rattle.element_events.specs.views.Told.{call}
@@ -20,9 +21,10 @@ use Rattle.rncv_c_values.specs.declared.status.Status.{Status}
 use Rattle.rncv_c_values.specs.declared.status.Status.TheVariants as status
 use Rattle.rncv_c_values.specs.declared.told.Judgement.{Judgement}
 
--- no call was taken yet, and there is no fault
+-- no call was taken yet, there is no fault, and no start is kept
 pub record HasBegun (document : Judging) : Type 0 where
   pub taken : told.HasTaken document []
+  pub mode : KeepsTag false document.matching.progress
   pub working : document.fault ≡ None
 
 -- the status for the result of a call that tells a part of the document
@@ -42,6 +44,7 @@ pub record HasAnswered (AreTexts : Type 0) (c : Event) (answer : Result Unit Eve
   pub working : OnOk answer (new.fault ≡ None)
   pub sticky : IfSome old.fault (λ f. (answer ≡ Err f) × (new ≡ old))
   pub since : IfSome (failed_since old) (λ place. UnlessOutOfMemory answer (failed_since new ≡ Some place))
+  pub mode : UnlessOutOfMemory answer (StaysInMode old.matching.progress new.matching.progress)
 
 -- the call returned this number
 pub record HasTaken (AreTexts : Type 0) (c : Event) (number : ℤ) (old new : Judging) : Type 0 where

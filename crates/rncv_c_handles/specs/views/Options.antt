@@ -6,6 +6,7 @@ use Rattle.rng_model.specs.matching.GrammarMatching.{reading_of}
 use Rattle.rng_model.specs.names.Names.{Name}
 use Rattle.rng_model.specs.documents.PyxTrees.{Event}
 use Rattle.rng_deriv.specs.views.Followers.{HasTagOptions}
+use Rattle.rng_deriv_events.specs.views.Positions.{StaysInMode}
 use Rattle.rng_deriv.specs.views.Matchers.{trees_in}
 use Rattle.rng_reasons.specs.TagOptions.{Options}
 use Rattle.expected_text.specs.ExpectationText.{expectation_text, tag_text}
@@ -53,6 +54,7 @@ IsOptionsText b old new text = TellsOptions b.name (map attribute_of b.attribute
 abbrev pub HasNoOptions : Beginning → Judging → Judging → Type 0
 HasNoOptions b old new = TellsOptions b.name (map attribute_of b.attributes) b.named old new None
 
--- the calls that were taken still are
-abbrev pub StillHasTaken : Judging → Judging → Type 0
-StillHasTaken old new = (calls : List Event) → HasTaken old calls → HasTaken new calls
+-- the calls that were taken still are, and a start is kept as before
+pub record StillHasTaken (old new : Judging) : Type 0 where
+  pub taken : (calls : List Event) → HasTaken old calls → HasTaken new calls
+  pub mode : StaysInMode old.matching.progress new.matching.progress

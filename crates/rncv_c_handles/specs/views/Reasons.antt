@@ -1,12 +1,13 @@
 -- Why a start or an end leaves nothing of the document of events that a handle holds, and what is held of it.
-use Rattle.std.specs.Prelude.{◌≡◌, ◌↔◌, ⊤, ℕ, List, length, Option, None, false}
+use Rattle.std.specs.Prelude.{◌≡◌, ℕ, List, length, Option, None, false, true}
 use Rattle.rng_model.specs.matching.Document.{Attribute}
 use Rattle.rng_model.specs.matching.GrammarMatching.{reading_of}
 use Rattle.rng_model.specs.names.Names.{Name}
 use Rattle.rng_model.specs.documents.PyxTrees.{Event}
-use Rattle.rng_deriv.specs.views.Followers.{HasStartReason, IsReason, MayReplace}
+use Rattle.rng_deriv.specs.views.Followers.{HasStartReason, IsReason, MayReplace, TellsNone}
 use Rattle.rng_deriv.specs.views.Matchers.{trees_in}
 use Rattle.rng_deriv_events.specs.views.Inputs.{tests_strings}
+use Rattle.rng_deriv_events.specs.views.Positions.{KeepsTag, StaysInMode}
 use Rattle.rng_expected.specs.Expectations.{Next}
 use Rattle.expected_text.specs.ExpectationText.{expectation_text}
 use Rattle.rng_reasons.specs.declared.reasons.Reason.{Reason}
@@ -24,6 +25,7 @@ pub record TellsStartReason (q : Name) (xs : List Attribute) (told : ReasonNumbe
       → HasStartReason (reading_of old.grammar) old.matching.progress (trees_in new.matching) q xs reason taken.events
   pub told_is : told ≡ reason_numbers reason
   pub knows : StillKnows old new
+  pub mode : StaysInMode old.matching.progress new.matching.progress
 
 -- the numbers tell what `EventDocument::end_reason` promises
 pub record TellsEndReason (told : ReasonNumbers) (old new : Judging) : Type 0 where
@@ -32,24 +34,43 @@ pub record TellsEndReason (told : ReasonNumbers) (old new : Judging) : Type 0 wh
       → IsWhyNoEnd (reading_of old.grammar) old.matching.progress new.matching.progress reason taken.events
   pub told_is : told ≡ reason_numbers reason
   pub knows : StillKnows old new
+  pub mode : StaysInMode old.matching.progress new.matching.progress
 
--- the numbers tell what `EventDocument::reason` promises: none exactly if it is not known that no continuation is valid
+-- the numbers tell what `EventDocument::reason` promises
 pub record TellsReason (told : ReasonNumbers) (old new : Judging) : Type 0 where
   pub reason : Option Reason
   pub is : (calls : List Event) (taken : HasTaken old calls)
       → IsReason (reading_of old.grammar) old.matching.progress (trees_in new.matching) reason taken.events
-  pub none : (reason ≡ None) ↔ (failed_since old ≡ None)
+  pub none : TellsNone old.matching.progress reason
   pub told_is : told ≡ reason_numbers reason
   pub knows : StillKnows old new
+  pub mode : StaysInMode old.matching.progress new.matching.progress
 
 -- the same of `Document::reason`, and what was fed stays
 pub record TellsFedReason (told : ReasonNumbers) (old new : fed.Judging) : Type 0 where
   pub reason : Option Reason
   pub is : (bytes : List ℕ) (fed : fed.HasBeenFed old bytes)
       → IsReason (reading_of old.grammar) old.matching.progress (trees_in new.matching) reason fed.events
-  pub none : (reason ≡ None) ↔ (documents.failed_since old ≡ None)
+  pub none : TellsNone old.matching.progress reason
   pub told_is : told ≡ reason_numbers reason
   pub stays : (bytes : List ℕ) → fed.HasBeenFed old bytes → fed.HasBeenFed new bytes
+  pub mode : StaysInMode old.matching.progress new.matching.progress
+
+-- what `EventDocument::want_reasons` promises: the calls that were taken still are, and a start is kept from now on
+pub record WantsReasons (old new : Judging) : Type 0 where
+  pub grammar : new.grammar ≡ old.grammar
+  pub taken : (calls : List Event) → HasTaken old calls → HasTaken new calls
+  pub fault : new.fault ≡ old.fault
+  pub since : failed_since new ≡ failed_since old
+  pub wanted : failed_since old ≡ None → KeepsTag true new.matching.progress
+
+-- the same of `Document::want_reasons`, and what was fed stays
+pub record WantsFedReasons (old new : fed.Judging) : Type 0 where
+  pub grammar : new.grammar ≡ old.grammar
+  pub stays : (bytes : List ℕ) → fed.HasBeenFed old bytes → fed.HasBeenFed new bytes
+  pub fault : new.fault ≡ old.fault
+  pub since : documents.failed_since new ≡ documents.failed_since old
+  pub wanted : documents.failed_since old ≡ None → KeepsTag true new.matching.progress
 
 -- so many bytes are held of the text behind the last start or end, and none where nothing tests what it says
 pub record IsHeldBy (count : ℕ) (d : Judging) : Type 0 where
