@@ -292,9 +292,16 @@ int32_t rncv_events_start_reason(rncv_schema *schema, const uint8_t *uri, size_t
  * Unless the status is RNCV_DONE, `reason` is unchanged. Only one thread at a time may use the handle. */
 int32_t rncv_events_end_reason(rncv_schema *schema, rncv_reason *reason);
 
+/* Asks for reasons of the document that is in progress, in PYX or as events: from now on it keeps the tag of a start after which no continuation is valid, its
+ * name and its attributes with their values, for rncv_fault_reason. The tag is kept until the document ends, and no longer. Without this call none is. If no
+ * continuation is valid already, nothing changes. Allocates nothing.
+ *
+ * RNCV_MISUSE: no document is in progress. Only one thread at a time may use the handle. */
+int32_t rncv_want_reasons(rncv_schema *schema);
+
 /* Writes to `reason` why no continuation is valid of the document that is in progress, in PYX or as events, or RNCV_REASON_NONE exactly if
- * rncv_document_invalid_since or rncv_events_invalid_since reports nothing. It is the reason of the start or end there; the caller need not keep its tag. The
- * document goes on as before.
+ * rncv_document_invalid_since or rncv_events_invalid_since reports nothing, or if it is a start there, and rncv_want_reasons was not called before. It is the
+ * reason of the start or end there; the caller need not keep its tag. The document goes on as before.
  *
  * RNCV_MEMORY: out of memory, or a call for the document was; each later call for it returns the same. RNCV_MISUSE: no document is in progress. Unless the
  * status is RNCV_DONE, `reason` is unchanged. Only one thread at a time may use the handle. */

@@ -301,6 +301,7 @@ static int fault_reason_once(void) {
         reason = (rncv_reason){99, 99};
         status = turn == 0 ? rncv_document_begin(&schema) : rncv_events_begin(&schema);
         if (status == RNCV_DONE) {
+            CHECK(rncv_want_reasons(&schema) == RNCV_DONE);
             status = turn == 0 ? feed(&schema, "(a\nAxmlns u\nAb 2\n)a\n") : start(&schema, 1, "a", &given, 1);
         }
         if (status == RNCV_DONE) {

@@ -18,6 +18,7 @@ static void no_reasons(rncv_schema *schema) {
 /* Why no continuation is valid is told of both kinds of documents. */
 static void no_fault_reason(rncv_schema *schema) {
     rncv_reason reason = {99, 99};
+    CHECK(rncv_want_reasons(schema) == RNCV_MISUSE);
     CHECK(rncv_fault_reason(schema, &reason) == RNCV_MISUSE && reason.kind == 99 && reason.attribute == 99);
 }
 

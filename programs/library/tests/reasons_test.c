@@ -241,6 +241,7 @@ static void check_fault(rncv_schema *schema, const char *before, const char *con
     rncv_attribute attributes[4];
     size_t count = make_attributes(attributes, words);
     begin(schema);
+    CHECK(rncv_want_reasons(schema) == RNCV_DONE);
     CHECK(fails_by(schema, RNCV_REASON_NONE, 0) && text(schema, before) == RNCV_DONE && fails_by(schema, RNCV_REASON_NONE, 0));
     CHECK(rncv_events_start(schema, 2, NULL, 0, (const uint8_t *)"figure", 6, count == 0 ? NULL : attributes, count) == RNCV_DONE);
     CHECK(is_invalid_since(schema, 2) && fails_by(schema, kind, attribute));
@@ -257,12 +258,22 @@ static void faults(rncv_schema *schema) {
     CHECK(fails_by(schema, RNCV_REASON_TEXT_VALUE, 0) && rncv_events_end(schema, 4) == RNCV_DONE && fails_by(schema, RNCV_REASON_TEXT_VALUE, 0));
     check_end(schema, "sizes", "", RNCV_REASON_INCOMPLETE, "element {}size\n");
     CHECK(fails_by(schema, RNCV_REASON_INCOMPLETE, 0));
+    /* a start is not kept for who asks too late */
+    begin(schema);
+    CHECK(start(schema, 2, "figure") == RNCV_DONE && is_invalid_since(schema, 2) && fails_by(schema, RNCV_REASON_NONE, 0));
+    CHECK(rncv_want_reasons(schema) == RNCV_DONE && is_invalid_since(schema, 2) && fails_by(schema, RNCV_REASON_NONE, 0));
+    /* asking lasts as long as the document */
+    check_fault(schema, "", NULL, RNCV_REASON_MISSING, 0);
+    begin(schema);
+    CHECK(start(schema, 2, "figure") == RNCV_DONE && fails_by(schema, RNCV_REASON_NONE, 0));
 }
 
 /* The same in PYX, where an event is known once the next line begins. */
 static void faults_in_pyx(rncv_schema *schema) {
     rncv_verdict verdict = {7, 7, 7};
-    CHECK(rncv_document_begin(schema) == RNCV_DONE && fails_by(schema, RNCV_REASON_NONE, 0));
+    CHECK(rncv_document_begin(schema) == RNCV_DONE && feed(schema, "(book\n(figure\n)figure\n") == RNCV_DONE);
+    CHECK(fails_by(schema, RNCV_REASON_NONE, 0) && rncv_want_reasons(schema) == RNCV_DONE && fails_by(schema, RNCV_REASON_NONE, 0));
+    CHECK(rncv_document_begin(schema) == RNCV_DONE && rncv_want_reasons(schema) == RNCV_DONE && fails_by(schema, RNCV_REASON_NONE, 0));
     CHECK(feed(schema, "(book\n(figure\nAid x\n") == RNCV_DONE && fails_by(schema, RNCV_REASON_NONE, 0));
     for (int turn = 0; turn < 2; turn++) {
         CHECK(feed(schema, ")figure\n") == RNCV_DONE && fails_by(schema, RNCV_REASON_VALUE, 0));

@@ -262,6 +262,71 @@ static void finds_what_is_held(rncv_schema *schema) {
     finds(schema, names, 3, 5);
 }
 
+/* A document that fails at a start tag with an attribute, whose names and value are secrets. */
+static pieces document_that_fails(void) {
+    pieces all = {malloc(4096), 0};
+    CHECK(all.bytes != NULL);
+    add_text(&all, "(doc\nAkey k\n(");
+    add_secret(&all, 3);
+    add_text(&all, "\nA");
+    add_secret(&all, 4);
+    add_text(&all, " ");
+    add_secret(&all, 0);
+    add_text(&all, "\nAxmlns ");
+    add_secret(&all, 5);
+    add_text(&all, "\n-");
+    add_secret(&all, 1);
+    add_text(&all, "\n)");
+    add_secret(&all, 3);
+    add_text(&all, "\n)doc\n");
+    return all;
+}
+
+/* The reason of the tag is told to who asked for reasons, and to nobody else. */
+static void check_reason(rncv_schema *schema, int is_wanted) {
+    rncv_reason reason = {99, 99};
+    CHECK(rncv_fault_reason(schema, &reason) == RNCV_DONE && reason.attribute == 0);
+    CHECK(reason.kind == (is_wanted ? RNCV_REASON_ELEMENT : RNCV_REASON_NONE));
+}
+
+/* Judges it, and looks for its secrets then. */
+static void forgets_what_failed(rncv_schema *schema, size_t piece, int is_wanted) {
+    rncv_verdict verdict = {7, 7, 7};
+    pieces all = document_that_fails();
+    CHECK(rncv_document_begin(schema) == RNCV_DONE && (!is_wanted || rncv_want_reasons(schema) == RNCV_DONE));
+    feed_pieces(schema, &all, piece);
+    free(all.bytes);
+    check_reason(schema, is_wanted);
+    CHECK(rncv_document_end(schema, &verdict) == RNCV_DONE && verdict.kind == RNCV_INVALID);
+    if (!is_quick()) {
+        check_nothing_is_left(is_wanted ? "a tag that was kept" : "a tag that failed");
+    }
+}
+
+/* The same document as events. */
+static void forgets_events_that_failed(rncv_schema *schema, int is_wanted) {
+    rncv_verdict verdict = {7, 7, 7};
+    pieces all = {malloc(4096), 0};
+    CHECK(all.bytes != NULL);
+    for (unsigned secret = 0; secret < SECRETS; secret += 1) {
+        add_secret(&all, secret);
+    }
+    const uint8_t *secrets = (const uint8_t *)all.bytes;
+    rncv_attribute key = {NULL, 0, (const uint8_t *)"key", 3, (const uint8_t *)"k", 1};
+    rncv_attribute attribute = {NULL, 0, secrets + 4 * LENGTH, LENGTH, secrets, LENGTH};
+    CHECK(rncv_events_begin(schema) == RNCV_DONE && (!is_wanted || rncv_want_reasons(schema) == RNCV_DONE));
+    CHECK(rncv_events_start(schema, 1, NULL, 0, (const uint8_t *)"doc", 3, &key, 1) == RNCV_DONE);
+    CHECK(rncv_events_start(schema, 2, secrets + 5 * LENGTH, LENGTH, secrets + 3 * LENGTH, LENGTH, &attribute, 1) == RNCV_DONE);
+    CHECK(rncv_events_text(schema, secrets + LENGTH, LENGTH) == RNCV_DONE);
+    CHECK(rncv_events_end(schema, 3) == RNCV_DONE && rncv_events_end(schema, 4) == RNCV_DONE);
+    free(all.bytes);
+    check_reason(schema, is_wanted);
+    CHECK(rncv_events_finish(schema, &verdict) == RNCV_DONE && verdict.kind == RNCV_INVALID && verdict.line == 2);
+    if (!is_quick()) {
+        check_nothing_is_left(is_wanted ? "a start that was kept" : "a start that failed");
+    }
+}
+
 int main(void) {
     rncv_schema schema = RNCV_NOTHING;
 
@@ -276,6 +341,11 @@ int main(void) {
         forgets(&schema, "", piece, RNCV_BROKEN);
     }
     finds_what_is_held(&schema);
+    for (int is_wanted = 0; is_wanted <= 1; is_wanted += 1) {
+        forgets_what_failed(&schema, 1, is_wanted);
+        forgets_what_failed(&schema, 4096, is_wanted);
+        forgets_events_that_failed(&schema, is_wanted);
+    }
     rncv_schema_free(&schema);
     return outcome("secrets_test");
 }

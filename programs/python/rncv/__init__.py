@@ -39,7 +39,7 @@ from typing import Any, NamedTuple, NoReturn, Optional, Protocol, Type, TypeVar,
 from . import _events, _schema_files, _xml
 from ._events import Attributes, EventVerdict, TreeVerdict
 from ._expected import Datatype, Expected, ExpectedTag, NameClass, TagOptions, Value, expected_of, tag_of
-from ._reasons import LineReason, Reason, Told, line_reason_of, reason_of
+from ._reasons import NOTHING_MATCHES, LineReason, Reason, Told, line_reason_of, reason_of
 from ._xml import XmlVerdict
 
 __all__ = ["Datatype", "Document", "EventVerdict", "Events", "Expected", "ExpectedTag", "LibraryError", "LineReason", "NameClass", "Place", "Reason",
@@ -284,7 +284,7 @@ class Validator:
 
         RuntimeError: another document is in progress, that is, not finished, not closed, and still referred to. MemoryError: out of memory.
         """
-        return self._begun(Document(self), self._library.rncv_document_begin)
+        return self._begun(Document(self), self._begin_with_reasons)
 
     def events(self) -> Events:
         """Begins a document that comes as events, as a parser tells it: the start and the end of each element, and texts.
@@ -375,6 +375,13 @@ class Validator:
                 self._document = None
             _want_done(status)
             return document
+
+    def _begin_with_reasons(self, handle: _Schema) -> int:
+        """Begins a document in PYX that keeps the tag after which nothing can follow, for its reason. Returns the status."""
+        status: int = self._library.rncv_document_begin(handle)
+        if status == _DONE:
+            status = self._library.rncv_want_reasons(handle)
+        return status
 
     def _want_free(self) -> None:
         """Raises an error if a document is in progress and is still referred to."""
@@ -664,17 +671,18 @@ class Events(_InProgress):
                 library.rncv_events_invalid_since(handle, self._since)
                 if self._since.value:
                     with contextlib.suppress(MemoryError):
-                        self._reason = self._reason_of_fault(words[-2] if words else ())
+                        self._reason = self._reason_of_fault(words)
         if status == _MALFORMED:
             return False
         _want_done(status)
         return True
 
-    def _reason_of_fault(self, attributes: Any) -> Optional[Reason]:
-        """The reason of the event after which no continuation is valid, which has these attributes."""
-        told = Told()
-        _want_done(self._validator._library.rncv_fault_reason(self._validator._handle, told))
-        return reason_of(told, attributes)
+    def _reason_of_fault(self, words: tuple[Any, ...]) -> Optional[Reason]:
+        """The reason of the start with these words, or of the end, after which no continuation is valid. Its tag is at hand, so the library need not keep it."""
+        told, library = Told(), self._validator._library
+        call = library.rncv_events_start_reason if words else library.rncv_events_end_reason
+        _want_done(call(self._validator._handle, *words, told))
+        return reason_of(told, words[-2] if words else ()) or NOTHING_MATCHES
 
     def _reason_by(self, call: Callable[..., int], *words: Any) -> Optional[Reason]:
         """The reason that this call of the library tells. The words are those of a start, with its attributes before the last one, or none."""
@@ -1127,6 +1135,7 @@ def _typed(library: ctypes.CDLL) -> ctypes.CDLL:
         ("rncv_events_tag_options", [schema, *[ctypes.c_char_p, size] * 2, ctypes.POINTER(_events.Attribute), size, *[ctypes.c_char_p, size] * 3,
                                      ctypes.POINTER(size)], status),
         ("rncv_events_end_reason", [schema, ctypes.POINTER(Told)], status),
+        ("rncv_want_reasons", [schema], status),
         ("rncv_fault_reason", [schema, ctypes.POINTER(Told)], status),
         ("rncv_events_finish", [schema, ctypes.POINTER(_Verdict)], status),
         ("rncv_expected", [schema, ctypes.c_char_p, size, ctypes.POINTER(size)], status),

@@ -24,6 +24,10 @@ class Reason(NamedTuple):
     attribute: Optional[str] = None
 
 
+# That of a tag of which the patterns leave something.
+NOTHING_MATCHES = Reason("nothing-matches")
+
+
 class LineReason(NamedTuple):
     """Why a line of a document in PYX leaves nothing of what may come next.
 
