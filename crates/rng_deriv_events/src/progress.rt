@@ -7,7 +7,7 @@ ghost use Rattle.rng_deriv_events.specs.views.Inputs.{IsOf, Serves, event_at, te
 ghost use Rattle.rng_deriv_events.specs.views.KeptLevels.{Grows};
 ghost use Rattle.rng_deriv_events.specs.views.LevelTable.{levels_in};
 ghost use Rattle.rng_deriv_events.specs.views.Numbers.{Longer};
-ghost use Rattle.rng_deriv_events.specs.views.OpenPositions.{IsPositionKept, open_position};
+ghost use Rattle.rng_deriv_events.specs.views.OpenPositions.{IsPositionKept, keeping, open_position};
 ghost use Rattle.rng_deriv_events.specs.views.Positions.{AddsProgress, AddsStep, HasCome, IsFailed, IsKnown, IsLost, IsProgressInside, KeepsTag};
 ghost use Rattle.rng_deriv_events.specs.views.Positions.{StaysInMode, failed_line, progress_at};
 ghost use Rattle.rng_model.specs.matching.GrammarMatching.{Reading};
@@ -185,18 +185,16 @@ impl Progress {
         ensures inside { (g : Reading) (keys : Keys) (trees : List (Simple ℕ)) → IsProgressInside g keys trees self.old → IsProgressInside g keys trees self.new }
         ensures gone { failed_line self.new ≡ None }
     {
-        if let Progress::Failed { .. } = self {
-            *self = Progress::Lost;
+        match self {
+            Progress::Failed { .. } => *self = Progress::Lost,
+            Progress::Going { .. } | Progress::Lost => {}
         }
     }
 }
 
-/// Sets the mode of a position.
+/// Keeps a start after which nothing is left, from this position on.
 fn keep_tag_at(position: &mut Box<Position>)
-    ensures state { position.new.value.state ≡ position.old.value.state }
-    ensures begun { position.new.value.has_begun ≡ position.old.value.has_begun }
-    ensures held { position.new.value.held ≡ position.old.value.held }
-    ensures mode { position.new.value.keeps_tag ≡ true }
+    ensures { position.new.value ≡ keeping position.old.value }
 {
     let position = &mut **position;
     position.keeps_tag = true;

@@ -1,5 +1,5 @@
 -- The lists of numbers that a position holds, and when what it keeps is right.
-use Rattle.std.specs.Prelude.{◌≡◌, ⊤, ℕ, ◌<◌, List, [], ◌++◌, length, map, All, Bool, Option, Some, None, slice_get}
+use Rattle.std.specs.Prelude.{◌≡◌, ⊤, ℕ, ◌<◌, List, [], ◌++◌, length, map, All, Bool, true, Option, Some, None, slice_get}
 use Rattle.rng_names.specs.plain.Keys.{Keys}
 use Rattle.rng_model.specs.simple.Tree.{Simple}
 use Rattle.rng_model.specs.matching.GrammarMatching.{Reading}
@@ -50,6 +50,10 @@ pub record OpenPosition : Type 0 where
 
 abbrev pub open_position : Position → OpenPosition
 open_position p = record { state = open_state p.state; has_begun = p.has_begun; held = open_string p.state.table p.held }
+
+-- the same position, from which on a start is kept after which nothing is left
+abbrev pub keeping : Position → Position
+keeping p = record { state = p.state; has_begun = p.has_begun; held = p.held; keeps_tag = true }
 
 -- ---- what is kept is right
 

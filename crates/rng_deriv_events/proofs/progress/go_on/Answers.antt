@@ -2,7 +2,7 @@ use Rattle.std.proofs.Common.{◌≡◌, ◌↔◌, true, false, ◌++◌, ◌�
 use Rattle.rng_model.specs.matching.GrammarMatching.{Reading}
 use Rattle.rng_deriv_laws.specs.plain.LevelEvents.{LevelMatcher}
 use Rattle.rng_deriv_events.specs.views.Basis.{reading_by}
-use Rattle.rng_deriv_events.specs.views.FailedEvents.{IsFailedEvent}
+use Rattle.rng_deriv_events.specs.views.FailedEvents.{IsFailedEvent, IsKept}
 use Rattle.rng_deriv_events.specs.views.Inputs.{event_at}
 use Rattle.rng_deriv_events.specs.views.LevelTable.{levels_in}
 use Rattle.rng_deriv_events.specs.views.LevelsLeft.{left_of, mark_of}
@@ -100,3 +100,12 @@ returns-clause-progress g c =
     c.in_ok-renew.ensures.renewed
     (comes_on reading old mid (open_position c.deref_mut-position.result.now) (open_position p) event (c.in_ok-step_by.ensures.step kind of) come.0 es
     (subst (λ (p : Position). HasCome reading old (open_position p) come.0 es) (sym c.deref_mut-position.ensures.value) come.1) some)
+
+pub returns-then-level-clause-mode : goal.returns-then-level-clause-mode
+returns-then-level-clause-mode g c = λ whole is.
+    let same = c.in_ok-step_by.ensures.mode ∙ ap (λ (p : Position). p.keeps_tag) c.deref_mut-position.ensures.value ∙ is in
+    subst (IsKept whole) (sym c.in_ok-left.ensures.event) (subst (λ b. IsKept b c.in_ok-event.event) same c.in_ok-event.ensures.kept)
+
+pub returns-clause-mode : goal.returns-clause-mode
+returns-clause-mode g c = λ whole is.
+    c.in_ok-renew.ensures.mode ∙ c.in_ok-step_by.ensures.mode ∙ ap (λ (p : Position). p.keeps_tag) c.deref_mut-position.ensures.value ∙ is

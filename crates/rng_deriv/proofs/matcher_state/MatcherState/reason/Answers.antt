@@ -12,7 +12,7 @@ use Rattle.rng_reasons.specs.declared.reasons.Reason.TheVariants as reasons
 use Rattle.rng_deriv.specs.views.Followers.{IsReason}
 use Rattle.rng_deriv.specs.views.KeptEvents.{KeepsFailed}
 use Rattle.rng_deriv.specs.views.Matchers.{matching_in, trees_in}
-use Rattle.rng_deriv.proofs.FailedReasons.{end_is, end_told, none_is, none_told, nothing_told, some_told, start_told, text_is}
+use Rattle.rng_deriv.proofs.FailedReasons.{end_is, end_told, none_is, none_known, none_told, nothing_told, some_told, start_told, text_is}
 use Rattle.rng_deriv.proofs.matcher_state.MatcherState.reason.Goals as goal
 
 pub returns-in_ok-reason-in-Start-clause-reason : goal.returns-in_ok-reason-in-Start-clause-reason
@@ -90,3 +90,8 @@ returns-in-UnkeptStart-clause-reason c = λ es known.
     let t = c.args.grammar.now in
     let s = c.args.self.now in
     none_is (reading_of t) (trees_in (matching_in t s)) s.progress es ((returns-in-UnkeptStart-clause-none c).none.0 refl)
+
+pub returns-in_default-clause-none : goal.returns-in_default-clause-none
+returns-in_default-clause-none c =
+    let p = c.args.self.now.progress in
+    none_told p (none_known p (c.in_ok-event.ensures.none.0 c.in_default.is))
