@@ -16,7 +16,7 @@ use Rattle.rng_model.specs.declared.type_set.TypeSet.{TypeSet}
 use Rattle.rncv_model.specs.answers.Verdict.{IsUnknownIn}
 use Rattle.element_events.specs.declared.fault.EventFault.{EventFault}
 use Rattle.rncv_validator.specs.views.Validators.{JudgesWith}
-use Rattle.rncv_events.specs.Answers.{AreHopelessFrom, IsAnswer}
+use Rattle.rncv_events.specs.Answers.{AreHopelessFrom, IsAnswerOn}
 use Rattle.blank_strings.specs.LeftOut.{LeavesOutBlanks}
 use Rattle.blank_strings.specs.LeftOutCalls.{LeaveOutTexts}
 
@@ -53,4 +53,4 @@ StaysHopeless = (types : TypeSet) (s : Schema) (g : Table) → JudgesWith types 
 abbrev pub StaysAnswered : Type 0
 StaysAnswered = (types : TypeSet) (s : Schema) (g : Table) → JudgesWith types g s → BreaksNoClauseWith types s → (calls rest : List Event)
     → LeaveOutTexts false calls rest → (d : Placed) → TellsDocument calls d → (answer : Result Outcome EventFault)
-    → IsAnswer (IsValidBySchemaWith types s) (IsUnknownIn s) rest answer → IsAnswer (IsValidBySchemaWith types s) (IsUnknownIn s) calls answer
+    → IsAnswerOn (IsValidBySchemaWith types s) (IsUnknownIn s) rest answer → IsAnswerOn (IsValidBySchemaWith types s) (IsUnknownIn s) calls answer

@@ -9,7 +9,8 @@ use Rattle.rng_model.specs.documents.PyxTrees.{Event, Placed}
 use Rattle.rng_model.specs.documents.Telling.{events_at, string_at, BeginToTell, NoneBegins, TellsTheDocument, TellsDocument}
 use Rattle.element_events.specs.plain.Calls as plain
 use Rattle.element_events.specs.plain.Calls.{AreTaken, after, is_misplaced, none_taken, one_more, nothing_taken}
-use Rattle.element_events.specs.views.Kept.{Kept, Stands, IsAfter, IsPassed, IsTaken, IsRefused, IsWhole, Takes, TakesText, Adds, Extends, UnlessOutOfMemory, IsVerdict}
+use Rattle.element_events.specs.views.Kept.{Kept, Stands, IsAfter, IsPassed, IsTaken, IsRefused, IsWhole, Takes, TakesText, Adds, Extends, IsVerdict}
+use Rattle.element_events.specs.views.Told.{UnlessOutOfMemory}
 use Rattle.element_events.specs.declared.fault.EventFault.{EventFault}
 use Rattle.element_events.specs.declared.fault.EventFault.TheVariants as faults
 use Rattle.element_events.proofs.Passed.{IsTag, after_tag, events_of_tag, some_passed, whole_itself}

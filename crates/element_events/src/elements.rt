@@ -3,8 +3,8 @@ ghost use Rattle.std.specs.Prelude.{◌≡◌, ℕ, [], List, OnOk, IfErr, IfSom
 ghost use Rattle.rng_model.specs.documents.EventViews.{Hands};
 ghost use Rattle.rng_model.specs.documents.PyxTrees.{Event, a_string, an_end};
 ghost use Rattle.rng_model.specs.documents.Telling.{BeginToTell};
-ghost use Rattle.element_events.specs.views.Kept.{Adds, Extends, IsVerdict, Kept, Stands, UnlessOutOfMemory, state_of};
-ghost use Rattle.element_events.specs.views.Told.{call, start_told};
+ghost use Rattle.element_events.specs.views.Kept.{Adds, Extends, IsVerdict, Kept, Stands, state_of};
+ghost use Rattle.element_events.specs.views.Told.{UnlessOutOfMemory, call, start_told};
 
 use crate::fault::EventFault;
 use crate::names::{Attribute, ExpandedName};

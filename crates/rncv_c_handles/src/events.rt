@@ -3,7 +3,7 @@ ghost use Rattle.std.specs.Prelude.{◌≡◌, ◌≢◌, ◌↔◌, IfErr, IfNo
 ghost use Rattle.std.specs.declared.option.Option.TheVariants.{None, Some};
 ghost use Rattle.rng_model.specs.documents.PyxTrees.{a_string, an_end};
 ghost use Rattle.element_events.specs.views.Told.{call};
-ghost use Rattle.rncv_events.specs.views.Told.{failed_since};
+ghost use Rattle.rncv_events.specs.views.Documents.{failed_since};
 ghost use Rattle.rncv_c_values.specs.views.Attributes.{AreTexts, name_of, start_of};
 ghost use Rattle.rncv_c_handles.specs.views.Events.{HasAnswered, HasBegun, HasEnded, HasTaken, HasTakenAnywhere, IsEndOf, IsInvalidSince, judgement_of, status_of_call, status_of_end, told_at_end};
 ghost use Rattle.rncv_c_values.specs.views.Codes.{code_of};

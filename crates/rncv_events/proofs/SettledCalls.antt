@@ -6,13 +6,14 @@ use Rattle.std.specs.Prelude.{unwrap_or}
 use Rattle.rng_model.specs.documents.EventViews.{Hands}
 use Rattle.rng_model.specs.datatypes.Texts.{is_blank}
 use Rattle.rng_model.specs.documents.PyxTrees.{Event, a_string}
-use Rattle.rng_model.specs.documents.Telling.{BeginToTell, NoneBegins, string_at}
+use Rattle.rng_model.specs.documents.Telling.{BeginToTell, IsGood, NoneBegins, string_at}
 use Rattle.rng_model.specs.simple.Table.{Table}
-use Rattle.element_events.specs.views.Kept.{Adds, Extends, IsAfter, IsPassed, Kept, Stands, UnlessOutOfMemory}
+use Rattle.element_events.specs.views.Kept.{Adds, Extends, IsAfter, IsPassed, Kept, Stands}
+use Rattle.element_events.specs.views.Told.{UnlessOutOfMemory}
 use Rattle.element_events.specs.declared.fault.EventFault.{EventFault}
 use Rattle.element_events.specs.declared.fault.EventFault.TheVariants as faults
 use Rattle.element_events.proofs.Passed.{some_passed}
-use Rattle.element_events.proofs.Taken.{none_more}
+use Rattle.element_events.proofs.Taken.{none_more, not_good}
 use Rattle.rng_deriv_events.specs.views.Inputs.{event_at, tests_strings}
 use Rattle.rng_deriv_events.specs.views.Positions.{KeepsTag, StaysInMode}
 use Rattle.rng_deriv.specs.declared.matcher_state.MatcherState.{MatcherState}
@@ -22,7 +23,8 @@ use Rattle.rncv_validator.proofs.FedDocuments.{gone, grammar_put, kept_put, know
 use Rattle.rncv_events.specs.Answers.{IsResult}
 use Rattle.rncv_events.specs.views.Leading.{HasPassedRightly, HoldsRightly, LeadsOn, MayPass}
 use Rattle.rncv_events.specs.views.Settled.{IsSettled}
-use Rattle.rncv_events.specs.views.Told.{HasTaken, IsFaultOfCalls, IsKeptFault, IsStuck, Judging, Takes, failed_since}
+use Rattle.rncv_events.specs.views.Documents.{IsStuck, failed_since}
+use Rattle.rncv_events.specs.views.Told.{HasTaken, IsFaultOfCalls, IsKeptFault, Judging, StillKnows, Takes}
 
 -- ---- no call yet
 
@@ -119,6 +121,16 @@ stuck d faults.Memory is = tt
 stuck d faults.NotWellFormed is = λ calls c taken. (stuck_result d faults.NotWellFormed is c calls taken, stuck_taken d faults.NotWellFormed is c calls taken)
 
 -- ---- a call that the caller refuses
+
+-- a call that no document has is one of those that were taken
+pub refused_taken : (d e : Judging) → e.grammar ≡ d.grammar → e.matching ≡ d.matching → e.calls.fault ≡ Some faults.NotWellFormed
+    → (calls : List Event) (c : Event) → ¬ (IsGood c.kind) → HasTaken d calls → HasTaken e (calls ++ c ∷ [])
+refused_taken d e grammar matching fault calls c bad taken = record {
+  by_grammar = ap (λ (m : Matching). m.grammar) matching ∙ taken.by_grammar ∙ sym grammar;
+  events = taken.events;
+  stands = subst (λ (o : Option EventFault). IsAfter o e.calls.passed e.calls.state (calls ++ c ∷ []) taken.events) (sym fault) (not_good calls c bad);
+  knows = subst (λ (m : Matching). Knows m taken.events) (sym matching) taken.knows;
+}
 
 pub refusal_first : (k : Kept) (o : Option MatcherState) (earlier now : Option EventFault) (f r : EventFault) → earlier ≡ None → earlier ≡ now
     → IsKeptFault k o earlier → r ≡ unwrap_or k.fault f → r ≡ unwrap_or now f
@@ -223,6 +235,17 @@ pub none_told : (r : Result Unit EventFault) (m : Matching) (earlier : Option Ev
     → IsSettled r m earlier place fault → earlier ≡ None → OnOk r (fault ≡ None)
 none_told (Ok x) m earlier place fault p calm = p.1 ∙ calm
 none_told (Err f) m earlier place fault p calm = tt
+
+-- ---- a question, which tells nothing
+
+-- the calls that were taken stay so
+pub still_taken : (d e : Judging) → StillKnows d e → (calls : List Event) → HasTaken d calls → HasTaken e calls
+still_taken d e still calls taken = record {
+  by_grammar = still.by_grammar;
+  events = taken.events;
+  stands = subst (λ (k : Kept). Stands k calls taken.events) (sym still.calls) taken.stands;
+  knows = still.knows taken.events taken.knows;
+}
 
 -- ---- a text, which hands nothing to the matcher
 

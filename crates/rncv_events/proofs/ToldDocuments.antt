@@ -31,8 +31,9 @@ use Rattle.rng_deriv_table.specs.views.Trees.{trees}
 use Rattle.rng_deriv.specs.views.Matchers.{HasFailedAt, HasRunOut, Knows, Matching, judges_by}
 use Rattle.rncv_validator.specs.views.Validators.{JudgesWith}
 use Rattle.rncv_validator.proofs.FedDocuments.{Says, known_start, of_some}
-use Rattle.rncv_events.specs.Answers.{AreHopelessFrom, IsAnswer, KnowsStarts}
-use Rattle.rncv_events.specs.views.Told.{HasTaken, IsFaultOfCalls, Judging, answer_by, failed_since}
+use Rattle.rncv_events.specs.Answers.{AreHopelessFrom, IsAnswerOn, HaveKnownStarts}
+use Rattle.rncv_events.specs.views.Documents.{failed_since}
+use Rattle.rncv_events.specs.views.Told.{HasTaken, IsFaultOfCalls, Judging, answer_by}
 use Rattle.rncv_events.proofs.CalledEvents.{all_in_front, came_by, calls_meet}
 
 -- ---- trees
@@ -59,7 +60,7 @@ module _ (g : Table) (types : TypeSet) (s : Schema) (judges : JudgesWith types g
 
   -- the grammar has all names of the starts among the calls, if it has those among their events
   starts_known : {calls events : List Event} {t : State} → AreTaken calls t events → All (λ (e : Event). KnowsName (grammar_of g) e.kind) events
-      → KnowsStarts (IsUnknownIn s) calls
+      → HaveKnownStarts (IsUnknownIn s) calls
   starts_known {calls} {events} a known =
       calls_meet (λ kind. ¬ (StartsUnknown (IsUnknownIn s) kind)) (λ text unknown. unknown) a
       (All-weaker (λ (e : Event). KnowsName (grammar_of g) e.kind) (λ (e : Event). ¬ (StartsUnknown (IsUnknownIn s) e.kind))
@@ -88,7 +89,7 @@ module _ (g : Table) (types : TypeSet) (s : Schema) (judges : JudgesWith types g
 
   -- the outcome of the document that the calls tell is the answer
   told_answer : {calls events : List Event} {t : State} → AreTaken calls t events → (document : TellsTheDocument calls events) → (o : Outcome)
-      → IsOutcome (reading_of g) document.tree o → IsAnswer (IsValidBySchemaWith types s) (IsUnknownIn s) calls (Ok o)
+      → IsOutcome (reading_of g) document.tree o → IsAnswerOn (IsValidBySchemaWith types s) (IsUnknownIn s) calls (Ok o)
   told_answer a document outcome.Valid valid = (document.tree, document.document, by_schema (item_of document.tree) valid)
   told_answer a document (outcome.Invalid place) fails =
       ((document.tree, document.document), hopeless a place (subst (λ (es : List Event). FailsAt (reading_of g) es place) document.events fails.1))
@@ -104,13 +105,13 @@ module _ (d : Judging) (types : TypeSet) (s : Schema) (judges : JudgesWith types
       hopeless d.matching.grammar types s judges_so (working d.calls calls taken.events calm taken.stands).2 place
       (fails_there (judges_by d.matching) (trees d.matching.grammar d.matching.patterns) taken.events d.matching.progress place failed taken.knows)
 
-  pub all_known : failed_since d ≡ None → ¬ (HasRunOut d.matching) → d.calls.fault ≡ None → KnowsStarts (IsUnknownIn s) calls
+  pub all_known : failed_since d ≡ None → ¬ (HasRunOut d.matching) → d.calls.fault ≡ None → HaveKnownStarts (IsUnknownIn s) calls
   all_known none kept calm =
       starts_known d.matching.grammar types s judges_so (working d.calls calls taken.events calm taken.stands).2
       (names_there (judges_by d.matching) (trees d.matching.grammar d.matching.patterns) taken.events d.matching.progress none kept taken.knows)
 
   pub ended_answer : {A : Type 0} (m : Matching) → m ≡ d.matching → d.calls.fault ≡ None → (ended : Result A EventFault) (o : Result Outcome OutOfMemory)
-      → IsVerdict ended calls taken.events → IfOk o (Says m) → IsAnswer (IsValidBySchemaWith types s) (IsUnknownIn s) calls (answer_by ended o)
+      → IsVerdict ended calls taken.events → IfOk o (Says m) → IsAnswerOn (IsValidBySchemaWith types s) (IsUnknownIn s) calls (answer_by ended o)
   ended_answer m there calm (Ok x) (Ok o) document says =
       let says_so = subst (λ (m : Matching). Says m o) there says in
       told_answer d.matching.grammar types s judges_so (working d.calls calls taken.events calm taken.stands).2 document o
@@ -121,7 +122,7 @@ module _ (d : Judging) (types : TypeSet) (s : Schema) (judges : JudgesWith types
 
 -- the answer that is an error
 pub fault_answer : (IsValid : Item → Type 0) (IsUnknown : Name → Type 0) (k : Kept) (f : EventFault) → IsFaultOfCalls k (Some f) → (calls events : List Event)
-    → Stands k calls events → IsAnswer IsValid IsUnknown calls (Err f)
+    → Stands k calls events → IsAnswerOn IsValid IsUnknown calls (Err f)
 fault_answer IsValid IsUnknown k faults.Memory is calls events stands = tt
 fault_answer IsValid IsUnknown k faults.NotWellFormed is calls events stands = verdict_stuck (Unit {0}) k faults.NotWellFormed is calls events stands
 

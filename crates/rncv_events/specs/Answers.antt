@@ -27,8 +27,8 @@ abbrev pub TellValid : (Item → Type 0) → List Event → Type 0
 TellValid IsValid calls = (tree : Placed) × TellsDocument calls tree × IsValid (item_of tree)
 
 -- none of the calls starts an element with a name that no element may have
-abbrev pub KnowsStarts : (Name → Type 0) → List Event → Type 0
-KnowsStarts IsUnknown calls = All (λ c. ¬ (StartsUnknown IsUnknown c.kind)) calls
+abbrev pub HaveKnownStarts : (Name → Type 0) → List Event → Type 0
+HaveKnownStarts IsUnknown calls = All (λ c. ¬ (StartsUnknown IsUnknown c.kind)) calls
 
 -- One of the calls has this place. No document that begins with the calls up to that one is valid. Before it no element
 -- starts with a name that no element may have.
@@ -38,12 +38,12 @@ pub record AreHopelessFrom (IsValid : Item → Type 0) (IsUnknown : Name → Typ
   pub behind : List Event
   pub parts : calls ≡ before ++ record { line = place; kind = kind } ∷ behind
   pub cannot : (more : List Event) → ¬ (TellValid IsValid (before ++ record { line = place; kind = kind } ∷ more))
-  pub known : KnowsStarts IsUnknown before
+  pub known : HaveKnownStarts IsUnknown before
 
 -- The answer at the end of the calls. `Valid`: they tell a document, and it is valid. `Invalid`: they tell a document, and
 -- it is invalid from this place on. `NotWellFormed`: they tell no document. Out of memory claims nothing.
-abbrev pub IsAnswer : (Item → Type 0) → (Name → Type 0) → List Event → Result Outcome EventFault → Type 0
-IsAnswer IsValid IsUnknown calls (Ok outcome.Valid) = TellValid IsValid calls
-IsAnswer IsValid IsUnknown calls (Ok (outcome.Invalid place)) = ((tree : Placed) × TellsDocument calls tree) × AreHopelessFrom IsValid IsUnknown calls place
-IsAnswer IsValid IsUnknown calls (Err faults.NotWellFormed) = (tree : Placed) → ¬ (TellsDocument calls tree)
-IsAnswer IsValid IsUnknown calls (Err faults.Memory) = ⊤
+abbrev pub IsAnswerOn : (Item → Type 0) → (Name → Type 0) → List Event → Result Outcome EventFault → Type 0
+IsAnswerOn IsValid IsUnknown calls (Ok outcome.Valid) = TellValid IsValid calls
+IsAnswerOn IsValid IsUnknown calls (Ok (outcome.Invalid place)) = ((tree : Placed) × TellsDocument calls tree) × AreHopelessFrom IsValid IsUnknown calls place
+IsAnswerOn IsValid IsUnknown calls (Err faults.NotWellFormed) = (tree : Placed) → ¬ (TellsDocument calls tree)
+IsAnswerOn IsValid IsUnknown calls (Err faults.Memory) = ⊤

@@ -1,4 +1,5 @@
 -- What the values of the code are.
+pub mod Documents
 pub mod Ending
 pub mod Leading
 pub mod Settled

@@ -5,6 +5,7 @@ ghost use Rattle.rng_model.specs.schema.Schema.{Schema};
 ghost use Rattle.rng_model.specs.xsd.SchemasWith.{IsValidBySchemaWith};
 ghost use Rattle.rng_model.specs.declared.type_set.TypeSet.{TypeSet};
 ghost use Rattle.rng_model.specs.documents.PyxTrees.{Event, a_string, an_end};
+ghost use Rattle.rng_model.specs.documents.Telling.{IsGood};
 ghost use Rattle.rncv_model.specs.answers.Verdict.{IsUnknownIn};
 ghost use Rattle.rng_model.specs.matching.GrammarMatching.{reading_of};
 ghost use Rattle.rng_expected.specs.views.Next.{next_of, tag_of};
@@ -16,10 +17,10 @@ ghost use Rattle.rng_deriv.specs.views.Matchers.{Knows, trees_in};
 ghost use Rattle.rng_deriv_events.specs.views.NextEnds.{TellsEnd};
 ghost use Rattle.rncv_events.specs.views.Ending.{IsWhyNoEnd};
 ghost use Rattle.rncv_validator.specs.views.Validators.{JudgesWith};
-ghost use Rattle.element_events.specs.views.Kept.{UnlessOutOfMemory};
-ghost use Rattle.element_events.specs.views.Told.{attribute_told, call, name_told, start_told};
-ghost use Rattle.rncv_events.specs.Answers.{AreHopelessFrom, IsAnswer, IsResult, KnowsStarts};
-ghost use Rattle.rncv_events.specs.views.Told.{HasTaken, IsStuck, StillKnows, Takes, answer_by, failed_since};
+ghost use Rattle.element_events.specs.views.Told.{UnlessOutOfMemory, attribute_told, call, name_told, start_told};
+ghost use Rattle.rncv_events.specs.Answers.{AreHopelessFrom, IsAnswerOn, IsResult, HaveKnownStarts};
+ghost use Rattle.rncv_events.specs.views.Documents.{IsStuck, failed_since};
+ghost use Rattle.rncv_events.specs.views.Told.{HasTaken, StillKnows, answer_by};
 
 use crate::copies::{copied_attributes, copied_name};
 use crate::settling::settle;
@@ -109,7 +110,8 @@ impl EventDocument {
         attributes: &[Attribute<'_>],
     ) -> Result<(), EventFault>
         ensures grammar { self.new.grammar ≡ self.old.grammar }
-        ensures taken { UnlessOutOfMemory result (Takes self.old self.new (call place (start_told name.entry attributes.now))) }
+        ensures taken { UnlessOutOfMemory result ((calls : List Event) → HasTaken self.old calls
+            → HasTaken self.new (calls ++ call place (start_told name.entry attributes.now) ∷ [])) }
         ensures answer { (calls : List Event) → HasTaken self.old calls → IsResult result (calls ++ call place (start_told name.entry attributes.now) ∷ []) }
         ensures fault { IfErr result (λ f. self.new.fault ≡ Some f) }
         ensures working { OnOk result (self.new.fault ≡ None) }
@@ -136,7 +138,8 @@ impl EventDocument {
     /// the schema has `text` or only elements. RELAX NG Specification, section 2.
     pub fn text(&mut self, text: &str) -> Result<(), EventFault>
         ensures grammar { self.new.grammar ≡ self.old.grammar }
-        ensures taken { (place : ℕ) → UnlessOutOfMemory result (Takes self.old self.new (call place (a_string text.now))) }
+        ensures taken { (place : ℕ) → UnlessOutOfMemory result ((calls : List Event) → HasTaken self.old calls
+            → HasTaken self.new (calls ++ call place (a_string text.now) ∷ [])) }
         ensures answer { (place : ℕ) (calls : List Event) → HasTaken self.old calls → IsResult result (calls ++ call place (a_string text.now) ∷ []) }
         ensures fault { IfErr result (λ f. self.new.fault ≡ Some f) }
         ensures working { OnOk result (self.new.fault ≡ None) }
@@ -165,7 +168,7 @@ impl EventDocument {
     /// Fails as `start` does. Costs what the matcher does. RELAX NG Specification, sections 2 and 6.2.
     pub fn end(&mut self, place: u64) -> Result<(), EventFault>
         ensures grammar { self.new.grammar ≡ self.old.grammar }
-        ensures taken { UnlessOutOfMemory result (Takes self.old self.new (call place an_end)) }
+        ensures taken { UnlessOutOfMemory result ((calls : List Event) → HasTaken self.old calls → HasTaken self.new (calls ++ call place an_end ∷ [])) }
         ensures answer { (calls : List Event) → HasTaken self.old calls → IsResult result (calls ++ call place an_end ∷ []) }
         ensures fault { IfErr result (λ f. self.new.fault ≡ Some f) }
         ensures working { OnOk result (self.new.fault ≡ None) }
@@ -195,6 +198,8 @@ impl EventDocument {
         ensures kept { self.new.fault ≡ Some result }
         ensures sticky { IfSome self.old.fault (λ _. self.new ≡ self.old) }
         ensures stuck { IfSome self.old.fault (IsStuck self.old) }
+        ensures taken { result ≡ EventFault.NotWellFormed → (calls : List Event) (c : Event) → ¬ (IsGood c.kind)
+            → HasTaken self.old calls → HasTaken self.new (calls ++ c ∷ []) }
         ensures since { failed_since self.new ≡ failed_since self.old }
         ensures mode { StaysInMode self.old.matching.progress self.new.matching.progress }
     {
@@ -223,7 +228,7 @@ impl EventDocument {
         ensures hopeless { IfSome result (λ place. self.now.fault ≡ None → (types : TypeSet) (s : Schema) (calls : List Event) → JudgesWith types self.now.grammar s
             → HasTaken self.now calls → AreHopelessFrom (IsValidBySchemaWith types s) (IsUnknownIn s) calls place) }
         ensures known { result ≡ None → self.now.fault ≡ None → (types : TypeSet) (s : Schema) (calls : List Event) → JudgesWith types self.now.grammar s
-            → HasTaken self.now calls → KnowsStarts (IsUnknownIn s) calls }
+            → HasTaken self.now calls → HaveKnownStarts (IsUnknownIn s) calls }
     {
         self.state.as_ref()?.failed_at()
     }
@@ -293,12 +298,15 @@ impl EventDocument {
     /// out of memory, in this call or in an earlier one. Then what is kept is unchanged, or each later call fails. Costs a
     /// copy of the name and the attributes, and what `MatcherState::start_reason` costs. RELAX NG Specification, sections
     /// 6.2.7 and 6.2.8.
+    #[tactic(auto, using(crate::proofs::SettledCalls::still_taken))]
     pub fn start_reason(
         &mut self,
         name: ExpandedName<'_>,
         attributes: &[Attribute<'_>],
     ) -> Result<Option<Reason>, OutOfMemory>
-        ensures knows { StillKnows self.old self.new }
+        ensures grammar { self.new.grammar ≡ self.old.grammar }
+        ensures calls { self.new.calls ≡ self.old.calls }
+        ensures taken { (calls : List Event) → HasTaken self.old calls → HasTaken self.new calls }
         ensures mode { StaysInMode self.old.matching.progress self.new.matching.progress }
         ensures same { OnOk result ((self.new.fault ≡ self.old.fault) × (self.new.matching.progress ≡ self.old.matching.progress)) }
         ensures reason { IfOk result (λ reason. (calls : List Event) (taken : HasTaken self.old calls)
@@ -342,6 +350,7 @@ impl EventDocument {
     /// only when out of memory, in this call or in an earlier one. Then what is kept is unchanged, or each later call fails.
     /// Costs a copy of the names and the attributes, and what `MatcherState::tag_options` costs. RELAX NG Specification,
     /// sections 6.2.7 and 6.2.8.
+    #[tactic(auto, using(crate::proofs::SettledCalls::still_taken))]
     pub fn tag_options<'g>(
         &mut self,
         grammar: &'g SimpleGrammar,
@@ -350,7 +359,9 @@ impl EventDocument {
         named: ExpandedName<'_>,
     ) -> Result<Option<TagOptions<'g>>, OutOfMemory>
         requires { grammar.now ≡ self.old.grammar }
-        ensures knows { StillKnows self.old self.new }
+        ensures grammar { self.new.grammar ≡ self.old.grammar }
+        ensures calls { self.new.calls ≡ self.old.calls }
+        ensures taken { (calls : List Event) → HasTaken self.old calls → HasTaken self.new calls }
         ensures mode { StaysInMode self.old.matching.progress self.new.matching.progress }
         ensures same { OnOk result ((self.new.fault ≡ self.old.fault) × (self.new.matching.progress ≡ self.old.matching.progress)) }
         ensures options { IfOk result (λ o. (calls : List Event) (taken : HasTaken self.old calls)
@@ -384,8 +395,11 @@ impl EventDocument {
     /// since the last start or end. The calls that were taken stay. Fails only when out of memory, in this call or in an
     /// earlier one; then later calls may fail too. Costs what `Matcher::may_end` and `MatcherState::end_reason` cost. RELAX NG
     /// Specification, section 6.2.7.
+    #[tactic(auto, using(crate::proofs::SettledCalls::still_taken))]
     pub fn end_reason(&mut self) -> Result<Option<Reason>, OutOfMemory>
-        ensures knows { StillKnows self.old self.new }
+        ensures grammar { self.new.grammar ≡ self.old.grammar }
+        ensures calls { self.new.calls ≡ self.old.calls }
+        ensures taken { (calls : List Event) → HasTaken self.old calls → HasTaken self.new calls }
         ensures mode { StaysInMode self.old.matching.progress self.new.matching.progress }
         ensures same { OnOk result (self.new.fault ≡ self.old.fault) }
         ensures reason { IfOk result (λ reason. (calls : List Event) (taken : HasTaken self.old calls)
@@ -425,8 +439,11 @@ impl EventDocument {
     /// patterns it leaves something, but no document with it is valid. The calls that were taken stay. Fails only when out of
     /// memory, in this call or in an earlier one; then each later call fails. Costs a copy of the tag, and what
     /// `MatcherState::reason` costs. RELAX NG Specification, sections 6.2.7 and 6.2.8.
+    #[tactic(auto, using(crate::proofs::SettledCalls::still_taken))]
     pub fn reason(&mut self) -> Result<Option<Reason>, OutOfMemory>
-        ensures knows { StillKnows self.old self.new }
+        ensures grammar { self.new.grammar ≡ self.old.grammar }
+        ensures calls { self.new.calls ≡ self.old.calls }
+        ensures taken { (calls : List Event) → HasTaken self.old calls → HasTaken self.new calls }
         ensures mode { StaysInMode self.old.matching.progress self.new.matching.progress }
         ensures same { OnOk result ((self.new.fault ≡ self.old.fault) × (self.new.matching.progress ≡ self.old.matching.progress)) }
         ensures reason { IfOk result (λ reason. (calls : List Event) (taken : HasTaken self.old calls)
@@ -499,7 +516,7 @@ impl EventDocument {
     pub fn finish(self) -> (Validator, Result<Outcome, EventFault>)
         ensures grammar { result.0 ≡ self.grammar }
         ensures answer { (types : TypeSet) (s : Schema) (calls : List Event) → JudgesWith types self.grammar s → HasTaken self calls
-            → IsAnswer (IsValidBySchemaWith types s) (IsUnknownIn s) calls result.1 }
+            → IsAnswerOn (IsValidBySchemaWith types s) (IsUnknownIn s) calls result.1 }
         ensures memory { IsErrOf result.1 EventFault.Memory → self.fault ≡ Some EventFault.Memory }
         ensures sticky { IfSome self.fault (λ f. result.1 ≡ Err f) }
         ensures since { IfSome (failed_since self) (λ place. IfOk result.1 (λ o. o ≡ Outcome.Invalid place)) }

@@ -6,8 +6,8 @@ ghost use Rattle.rng_model.specs.documents.PyxTrees.{Event, a_string, an_end};
 ghost use Rattle.rng_model.specs.documents.Telling.{BeginToTell, string_at};
 ghost use Rattle.rng_deriv_events.specs.views.Inputs.{tests_strings};
 ghost use Rattle.rng_deriv.specs.views.Matchers.{HasGoneOn};
-ghost use Rattle.element_events.specs.views.Kept.{Adds, IsPassed, Stands, UnlessOutOfMemory};
-ghost use Rattle.element_events.specs.views.Told.{call, start_told};
+ghost use Rattle.element_events.specs.views.Kept.{Adds, IsPassed, Stands};
+ghost use Rattle.element_events.specs.views.Told.{UnlessOutOfMemory, call, start_told};
 ghost use Rattle.rncv_events.specs.views.Leading.{LeadsOn, MayPass};
 
 use element_events::{Attribute, ElementEvents, EventFault, ExpandedName};

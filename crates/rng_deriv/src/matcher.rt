@@ -108,6 +108,11 @@ impl<'a> Matcher<'a> {
         requires { tests_strings self.old.progress ≡ false }
         ensures stands { OnOk result ((text : List ℕ) → is_blank text ≡ blank
             → Hands HasGoneOn self.old self.new (event_at line (trees.a_string text) ∷ [])) }
+        ensures knows { OnOk result ((text : List ℕ) (es : List trees.Event) → is_blank text ≡ blank → Knows self.old es
+            → Knows self.new (es ++ record { line = line; kind = trees.a_string text } ∷ [])) }
+        ensures grammar { OnOk result (judges_by self.new ≡ judges_by self.old) }
+        ensures failed { OnOk result ((at : ℕ) → HasFailedAt self.old at → HasFailedAt self.new at) }
+        ensures kept { OnOk result (¬ (HasRunOut self.new)) }
         ensures lost { OnErr result (HasRunOut self.new) }
     {
         self.matcher.take_any_text(line, blank)
@@ -123,6 +128,10 @@ impl<'a> Matcher<'a> {
     pub fn may_end(&mut self) -> Result<bool, OutOfMemory>
         ensures ends { IfOk result (λ told. (es : List trees.Event) → Knows self.old es → TellsEnd (judges_by self.old) self.old.progress told es) }
         ensures same { OnOk result (HasGoneOn self.old self.new []) }
+        ensures knows { OnOk result ((es : List trees.Event) → Knows self.old es → Knows self.new es) }
+        ensures grammar { OnOk result (judges_by self.new ≡ judges_by self.old) }
+        ensures failed { OnOk result ((line : ℕ) → HasFailedAt self.old line → HasFailedAt self.new line) }
+        ensures kept { OnOk result (¬ (HasRunOut self.new)) }
         ensures tests { OnOk result (tests_strings self.new.progress ≡ tests_strings self.old.progress) }
         ensures lost { OnErr result (HasRunOut self.new) }
         ensures again { HasRunOut self.old → IsErr result }

@@ -77,12 +77,6 @@ IsAfter (Some faults.NotWellFormed) passed s calls sent = NoneBegins calls
 abbrev pub Stands : Kept → List Event → List Event → Type 0
 Stands k calls sent = IsAfter k.fault k.passed k.state calls sent
 
--- a claim that holds unless memory ran out
-abbrev pub UnlessOutOfMemory : {A : Type 0} → Result A EventFault → Type 0 → Type 0
-UnlessOutOfMemory (Ok x) P = P
-UnlessOutOfMemory (Err faults.Memory) P = ⊤
-UnlessOutOfMemory (Err faults.NotWellFormed) P = P
-
 -- for all calls and events that it stood for, it now stands for them with this call, with the text that was passed over,
 -- as a string with the place of this call, and with events that were handed out, appended
 abbrev pub Extends : (List Event → Type 0) → Kept → Kept → Event → Type 0

@@ -9,13 +9,13 @@ use Rattle.rng_model.specs.xsd.SchemasWith.{IsValidBySchemaWith}
 use Rattle.rncv_model.specs.answers.Verdict.{IsUnknownIn}
 use Rattle.rng_deriv_events.specs.views.Positions.{KeepsTag, StaysInMode}
 use Rattle.rncv_validator.specs.views.Validators.{JudgesWith}
-use Rattle.element_events.specs.views.Kept.{UnlessOutOfMemory}
-use Rattle.element_events.specs.views.Told.{call}
+use Rattle.element_events.specs.views.Told.{UnlessOutOfMemory, call}
 use Rattle.element_events.specs.declared.fault.EventFault.{EventFault}
 use Rattle.element_events.specs.declared.fault.EventFault.TheVariants as faults
-use Rattle.rncv_events.specs.Answers.{AreHopelessFrom, IsAnswer, IsResult, KnowsStarts}
+use Rattle.rncv_events.specs.Answers.{AreHopelessFrom, IsAnswerOn, IsResult, HaveKnownStarts}
 use Rattle.rncv_events.specs.views.Told as told
-use Rattle.rncv_events.specs.views.Told.{Judging, Takes, failed_since}
+use Rattle.rncv_events.specs.views.Documents.{failed_since}
+use Rattle.rncv_events.specs.views.Told.{Judging, Takes}
 use Rattle.rncv_c_values.specs.views.Codes.{code_of}
 use Rattle.rncv_c_values.specs.declared.status.Status.{Status}
 use Rattle.rncv_c_values.specs.declared.status.Status.TheVariants as status
@@ -79,7 +79,7 @@ told_at_end old (Err faults.Memory) = old
 -- `EventDocument::finish` may return this
 pub record IsEndOf (document : Judging) (answer : Result Outcome EventFault) : Type 0 where
   pub is : (types : TypeSet) (s : Schema) (calls : List Event) → JudgesWith types document.grammar s → told.HasTaken document calls
-      → IsAnswer (IsValidBySchemaWith types s) (IsUnknownIn s) calls answer
+      → IsAnswerOn (IsValidBySchemaWith types s) (IsUnknownIn s) calls answer
   pub memory : IsErrOf answer faults.Memory → document.fault ≡ Some faults.Memory
   pub sticky : IfSome document.fault (λ f. answer ≡ Err f)
   pub since : IfSome (failed_since document) (λ place. IfOk answer (λ o. o ≡ outcomes.Invalid place))
@@ -99,4 +99,4 @@ pub record IsInvalidSince (place : ℕ) (document : Judging) : Type 0 where
   pub hopeless : IfSome (failed_since document) (λ since. document.fault ≡ None → (types : TypeSet) (s : Schema) (calls : List Event)
       → JudgesWith types document.grammar s → told.HasTaken document calls → AreHopelessFrom (IsValidBySchemaWith types s) (IsUnknownIn s) calls since)
   pub known : failed_since document ≡ None → document.fault ≡ None → (types : TypeSet) (s : Schema) (calls : List Event)
-      → JudgesWith types document.grammar s → told.HasTaken document calls → KnowsStarts (IsUnknownIn s) calls
+      → JudgesWith types document.grammar s → told.HasTaken document calls → HaveKnownStarts (IsUnknownIn s) calls

@@ -12,7 +12,8 @@ use Rattle.rng_expected.specs.Expectations.{Next}
 use Rattle.expected_text.specs.ExpectationText.{expectation_text}
 use Rattle.rng_reasons.specs.declared.reasons.Reason.{Reason}
 use Rattle.rncv_events.specs.views.Ending.{IsWhyNoEnd}
-use Rattle.rncv_events.specs.views.Told.{HasTaken, Judging, StillKnows, failed_since}
+use Rattle.rncv_events.specs.views.Documents.{failed_since}
+use Rattle.rncv_events.specs.views.Told.{HasTaken, Judging}
 use Rattle.rncv_validator.specs.views.Documents as documents
 use Rattle.rncv_validator.specs.views.FedDocuments as fed
 use Rattle.rncv_c_values.specs.views.Reasons.{reason_numbers}
@@ -24,7 +25,6 @@ pub record TellsStartReason (q : Name) (xs : List Attribute) (told : ReasonNumbe
   pub is : (calls : List Event) (taken : HasTaken old calls)
       → HasStartReason (reading_of old.grammar) old.matching.progress (trees_in new.matching) q xs reason taken.events
   pub told_is : told ≡ reason_numbers reason
-  pub knows : StillKnows old new
   pub mode : StaysInMode old.matching.progress new.matching.progress
 
 -- the numbers tell what `EventDocument::end_reason` promises
@@ -33,7 +33,6 @@ pub record TellsEndReason (told : ReasonNumbers) (old new : Judging) : Type 0 wh
   pub is : (calls : List Event) (taken : HasTaken old calls)
       → IsWhyNoEnd (reading_of old.grammar) old.matching.progress new.matching.progress reason taken.events
   pub told_is : told ≡ reason_numbers reason
-  pub knows : StillKnows old new
   pub mode : StaysInMode old.matching.progress new.matching.progress
 
 -- the numbers tell what `EventDocument::reason` promises
@@ -43,7 +42,6 @@ pub record TellsReason (told : ReasonNumbers) (old new : Judging) : Type 0 where
       → IsReason (reading_of old.grammar) old.matching.progress (trees_in new.matching) reason taken.events
   pub none : TellsNone old.matching.progress reason
   pub told_is : told ≡ reason_numbers reason
-  pub knows : StillKnows old new
   pub mode : StaysInMode old.matching.progress new.matching.progress
 
 -- the same of `Document::reason`, and what was fed stays

@@ -1,14 +1,12 @@
 -- What a document keeps of the calls that told it. Calls hand it on.
-use Rattle.std.specs.Prelude.{⊤, ◌≡◌, ℕ, List, [], ◌∷◌, ◌++◌, Option, Some, None, Result, Ok, Err}
+use Rattle.std.specs.Prelude.{⊤, ◌≡◌, List, [], ◌∷◌, ◌++◌, Option, Some, None, Result, Ok, Err}
 use Rattle.rng_model.specs.simple.Table.{Table}
 use Rattle.rng_model.specs.documents.PyxTrees.{Event}
-use Rattle.rng_model.specs.documents.Telling.{NoneBegins}
 use Rattle.rng_model.specs.declared.fault.OutOfMemory.{OutOfMemory}
 use Rattle.rng_model.specs.declared.outcome.Outcome.{Outcome}
 use Rattle.element_events.specs.views.Kept.{Kept, Stands}
 use Rattle.element_events.specs.declared.fault.EventFault.{EventFault}
 use Rattle.element_events.specs.declared.fault.EventFault.TheVariants as faults
-use Rattle.rng_deriv_events.specs.views.Positions.{failed_line}
 use Rattle.rng_deriv.specs.views.Matchers.{Knows, Matching}
 use Rattle.rng_deriv.specs.declared.matcher_state.MatcherState.{MatcherState}
 
@@ -38,10 +36,6 @@ pub record StillKnows (old new : Judging) : Type 0 where
   pub by_grammar : new.matching.grammar ≡ new.grammar
   pub knows : (es : List Event) → Knows old.matching es → Knows new.matching es
 
--- the place of the event after which no continuation is valid, if it is known
-abbrev pub failed_since : Judging → Option ℕ
-failed_since d = failed_line d.matching.progress
-
 -- what is kept of a fault: that of the calls, if they have one, or out of memory; and always out of memory if no state is
 -- kept
 abbrev pub IsFaultOfCalls : Kept → Option EventFault → Type 0
@@ -58,9 +52,3 @@ abbrev pub answer_by : {A : Type 0} → Result A EventFault → Result Outcome O
 answer_by (Ok x) (Ok o) = Ok o
 answer_by (Ok x) (Err e) = Err faults.Memory
 answer_by (Err f) o = Err f
-
--- After this fault no call is taken: no document begins with the calls that were taken and one more, and what is kept stands for
--- them too. Out of memory claims nothing.
-abbrev pub IsStuck : Judging → EventFault → Type 0
-IsStuck d faults.Memory = ⊤
-IsStuck d faults.NotWellFormed = (calls : List Event) (c : Event) → HasTaken d calls → NoneBegins (calls ++ c ∷ []) × HasTaken d (calls ++ c ∷ [])

@@ -19,6 +19,5 @@ returns-in-Ok-start_reason-clause-told c =
           (subst (λ q. HasStartReason (reading_of old.grammar) old.matching.progress (trees_in c.start_reason.new.self.matching) q
           (map attribute_told c.as_slice.result.now) reason taken.events) c.in-Ok.ensures.name (told.reason calls taken));
       told_is = c.reason_to_tell.ensures;
-      knows = told.knows;
       mode = told.mode;
     }

@@ -9,8 +9,9 @@ use Rattle.element_events.specs.declared.fault.EventFault.{EventFault}
 use Rattle.element_events.specs.declared.fault.EventFault.TheVariants as faults
 use Rattle.rncv_validator.specs.views.FedDocuments.{HasNotRunOut}
 use Rattle.rncv_validator.proofs.FedDocuments.{state_there}
-use Rattle.rncv_events.specs.Answers.{IsAnswer}
-use Rattle.rncv_events.specs.views.Told.{IsFaultOfCalls, Judging, failed_since}
+use Rattle.rncv_events.specs.Answers.{IsAnswerOn}
+use Rattle.rncv_events.specs.views.Documents.{failed_since}
+use Rattle.rncv_events.specs.views.Told.{IsFaultOfCalls, Judging}
 use Rattle.rncv_events.proofs.SettledCalls.{calls_work, fault_of_calls, not_run_out, resumed_there}
 use Rattle.rncv_events.proofs.ToldDocuments.{ended_answer, ended_since, fault_answer, not_lost}
 use Rattle.rncv_events.proofs.document.EventDocument.finish.Goals as goal
@@ -24,7 +25,7 @@ returns-clause-answer c = λ types s calls judges taken.
     let works = subst (λ (j : Judging). j.calls.fault ≡ None) c.self.view_is (calls_work d.calls d.state d.fault (search rules) c.self.invariant.2) in
     let ends = subst (λ (j : Judging). (calls sent : List Event) → Stands j.calls calls sent → IsVerdict c.finish.result calls sent) c.self.view_is
     c.finish.ensures.document in
-    subst (λ (r : Result Outcome EventFault). IsAnswer (IsValidBySchemaWith types s) (IsUnknownIn s) calls r) (sym c.answer_at_end-answer.ensures)
+    subst (λ (r : Result Outcome EventFault). IsAnswerOn (IsValidBySchemaWith types s) (IsUnknownIn s) calls r) (sym c.answer_at_end-answer.ensures)
     (ended_answer c.args.self types s judges calls taken old there works c.finish.result c.outcome.result (ends calls taken.events taken.stands)
     c.outcome.ensures.outcome)
 

@@ -1,14 +1,14 @@
 use Rattle.std.proofs.Common.{◌≡◌, [], ◌∷◌, ◌++◌, IfErr, IfSome, List, None, OnOk, Result, Some, ap, rules, subst, sym}
 use Rattle.rng_model.specs.documents.PyxTrees.{Event}
-use Rattle.element_events.specs.views.Kept.{UnlessOutOfMemory}
 use Rattle.element_events.specs.declared.fault.EventFault.{EventFault}
-use Rattle.element_events.specs.views.Told.{call, start_told}
+use Rattle.element_events.specs.views.Told.{UnlessOutOfMemory, call, start_told}
 use Rattle.rng_deriv_events.specs.views.Positions.{StaysInMode}
 use Rattle.rncv_validator.specs.views.FedDocuments.{HasNotRunOut, matching_of}
 use Rattle.rncv_validator.proofs.FedDocuments.{state_there}
 use Rattle.rncv_events.specs.Answers.{IsResult}
 use Rattle.rncv_events.specs.views.Leading.{LeadsOn}
-use Rattle.rncv_events.specs.views.Told.{HasTaken, IsFaultOfCalls, Judging, Takes, failed_since}
+use Rattle.rncv_events.specs.views.Documents.{failed_since}
+use Rattle.rncv_events.specs.views.Told.{HasTaken, IsFaultOfCalls, Judging, Takes}
 use Rattle.rncv_events.proofs.SettledCalls.{fault_of_calls, fault_settled, fault_told, held_settled, kept_settled, may_pass, mode_settled, none_told, passed_settled, result_is, resumed_there, since_settled}
 use Rattle.rncv_events.proofs.SettledCalls.{state_settled, stuck_result, stuck_taken, taken_settled}
 use Rattle.rncv_events.proofs.document.EventDocument.start.Goals as goal

@@ -1,7 +1,7 @@
 use Rattle.std.proofs.Common.{Err, Ok, Some, ap, rules, subst}
 use Rattle.rng_model.specs.documents.PyxTrees.{a_string}
-use Rattle.element_events.specs.views.Kept.{Adds, UnlessOutOfMemory}
-use Rattle.element_events.specs.views.Told.{call}
+use Rattle.element_events.specs.views.Kept.{Adds}
+use Rattle.element_events.specs.views.Told.{UnlessOutOfMemory, call}
 use Rattle.rncv_validator.specs.views.FedDocuments.{matching_of}
 use Rattle.rncv_events.specs.views.Told.{IsFaultOfCalls, Judging}
 use Rattle.rncv_events.proofs.SettledCalls.{fault_of_calls, stuck_result, stuck_taken, text_held, text_passed, text_result_is, text_taken, text_takes, text_working}
