@@ -5,18 +5,19 @@ looks whether that is so. It finds each relation of a carried file in the clause
 says whether it is a premise there (left of an arrow, below a negation, or in `requires`) or a conclusion.
 
 - If a clause has it as a premise, another clause has it as a conclusion. Else the first clause says nothing.
-- If a clause of a type's method has it as a premise, each other method that changes a value of the type (`&mut self`) has it as a conclusion. Else a
-  value may lose it, and the first clause says nothing from then on.
+- If a clause of a type's method has it as a premise, each other method that changes a value of the type (`&mut self`) has it as a conclusion, also one that
+  calls.txt leaves out. Else a value may lose it, and the first clause says nothing from then on.
 """
 import collections
 import re
 
-from texts import blocks, imports, is_file, named_clauses, node_of_module, signature
+from texts import blocks, imports, is_file, methods_of, named_clauses, node_of_module, signature
 
 STRING = re.compile(r'"(?:[^"\\]|\\.)*"')
 TOKEN = re.compile(r"[()\[\]{},]|[^\s()\[\]{},]+")
 DEFINITION = re.compile(r"^ *(?P<words>(?:(?:abbrev|unfoldable|opaque|pub|record|data) )+)(?P<name>[^\s:(){}]+)(?P<takes>.*?) : (?P<kind>.*)$")
-Clause = collections.namedtuple("Clause", "call method changes keyword name file text")
+CHANGES = re.compile(r"&(?:'\w+ )?mut self\b")
+Clause = collections.namedtuple("Clause", "call method keyword name file text")
 
 
 def nested(text):
@@ -143,12 +144,19 @@ class Reasons:
     def faults(self, calls):
         """A line for each clause that rests on a relation that is not handed on."""
         clauses = [clause for line in calls for clause in public_clauses(self.crates, *line.split())]
-        said = [(clause, self.signs(clause.file, [nested(clause.text)], -1 if clause.keyword == "requires" else 1)) for clause in clauses]
+        others = [clause for line in calls for clause in other_clauses(self.crates, *line.split())]
+        changing = sorted({pair for line in calls for pair in changing_methods(self.crates, *line.split()[:2])})
+        said, said_by_others = self.said(clauses), self.said(others)
         for relation in sorted(self.relations):
             premises = [clause for clause, signs in said if (relation, -1) in signs]
             conclusions = [clause for clause, signs in said if (relation, 1) in signs and clause.keyword == "ensures"]
+            kept = [clause for clause, signs in said_by_others if (relation, 1) in signs and clause.keyword == "ensures"]
             yield from lone_premises(relation, premises, conclusions)
-            yield from lost(relation, premises, conclusions, clauses)
+            yield from lost(relation, premises, conclusions + kept, changing)
+
+    def said(self, clauses):
+        """These clauses, each with the carried relations in it and their signs."""
+        return [(clause, self.signs(clause.file, [nested(clause.text)], -1 if clause.keyword == "requires" else 1)) for clause in clauses]
 
 
 def lone_premises(relation, premises, conclusions):
@@ -158,10 +166,10 @@ def lone_premises(relation, premises, conclusions):
             yield f"{file}: {name} is a premise of {reported(clause)}, and no other clause concludes it"
 
 
-def lost(relation, premises, conclusions, clauses):
+def lost(relation, premises, conclusions, changing):
     """The methods that change a value, and do not say that a relation that another method takes as a premise still holds."""
     file, name = relation
-    for call, method in sorted({(clause.call, clause.method) for clause in clauses if clause.changes}):
+    for call, method in changing:
         taken = [clause for clause in premises if clause.call == call and clause.method != method and clause.keyword == "ensures"]
         if taken and not any((clause.call, clause.method) == (call, method) for clause in conclusions):
             yield f"{file}: {name} is a premise of {reported(taken[0])}, and {call}::{method} does not conclude it of what it changes"
@@ -171,16 +179,37 @@ def reported(clause):
     return f"the clause {' '.join(filter(None, (clause.keyword, clause.name)))} of {'::'.join(filter(None, (clause.call, clause.method)))}"
 
 
-def public_clauses(crates, crate, name, *methods):
-    """The clauses of a public call, or of the methods of a type."""
-    call = f"{crate}::{name}"
+def public_clauses(crates, crate, name, *said):
+    """The clauses of a public call, or of the methods of a type, without those that are left out."""
+    call, methods = f"{crate}::{name}", methods_of(said)
     for file in crates.sources(crate):
         text = crates.text(file)
         for found in re.finditer(r"^pub fn %s\b" % name, text, re.M):
             yield from clauses_at(text, found.start(), file, call, "")
         if re.search(r"^pub struct %s\b" % name, text, re.M):
             for block, found in methods_in(text, name, methods):
-                yield from clauses_at(block, found.start(), file, call, found[1])
+                yield from (clause for clause in clauses_at(block, found.start(), file, call, found[1]) if clause.name not in methods.get(found[1], ()))
+
+
+def other_clauses(crates, crate, name, *said):
+    """The clauses of the public methods of a type that its line in calls.txt leaves out."""
+    methods = methods_of(said)
+    for file in crates.sources(crate) if methods else ():
+        text = crates.text(file)
+        if re.search(r"^pub struct %s\b" % name, text, re.M):
+            for block, found in methods_in(text, name, ()):
+                if found[1] not in methods:
+                    yield from clauses_at(block, found.start(), file, f"{crate}::{name}", found[1])
+
+
+def changing_methods(crates, crate, name):
+    """The public methods of a type that change a value, each with the call of the type."""
+    for file in crates.sources(crate):
+        text = crates.text(file)
+        if re.search(r"^pub struct %s\b" % name, text, re.M):
+            for block, found in methods_in(text, name, ()):
+                if CHANGES.search(signature(block, found.start())):
+                    yield f"{crate}::{name}", found[1]
 
 
 def methods_in(text, name, methods):
@@ -196,6 +225,5 @@ def methods_in(text, name, methods):
 
 def clauses_at(text, start, file, call, method):
     """The clauses of the function at this offset."""
-    changes = re.search(r"&(?:'\w+ )?mut self\b", signature(text, start)) is not None
     for keyword, name, said in named_clauses(text, start)[0]:
-        yield Clause(call, method, changes, keyword, name, file, said)
+        yield Clause(call, method, keyword, name, file, said)

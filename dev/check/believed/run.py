@@ -28,7 +28,7 @@ import re
 import sys
 
 from carried import Reasons
-from texts import TYPE, Crates, blocks, clauses, clauses_in, declaration, imports, is_file, node_of_module, rows, signature, words
+from texts import TYPE, Crates, blocks, clauses, clauses_in, declaration, imports, is_file, methods_of, named_clauses, node_of_module, rows, signature, words
 
 HERE = pathlib.Path(__file__).resolve().parent
 MODELS = ("rng_model", "rnc_model", "rncv_model")
@@ -117,7 +117,7 @@ class Closure:
             self.add_names(file, words(said + clauses_in(block)), f"{file}: {name}")
 
     def add_call(self, crate, name, *methods):
-        """Adds the contract of a public call: a function, or a type with all its public methods or only with these methods."""
+        """Adds the contract of a public call: a function, or a type with all its public methods or only with these methods (`methods_of`)."""
         call = f"{crate} {name}"
         for file in self.crates.sources(crate):
             text = self.crates.text(file)
@@ -125,7 +125,7 @@ class Closure:
                 self.add_function(file, text, re.search(r"^pub fn %s\b" % name, text, re.M).start(), call)
                 return
             if re.search(r"^pub struct %s\b" % name, text, re.M):
-                self.add_type(file, text, name, methods, call)
+                self.add_type(file, text, name, methods_of(methods), call)
                 return
         raise SystemExit(f"dev/check/believed/calls.txt: no public `{name}` in {crate}")
 
@@ -144,7 +144,11 @@ class Closure:
             for at in re.finditer(r"^ *pub fn (\w+)", block, re.M):
                 if methods and at[1] not in methods:
                     continue
-                self.add_names(file, words(" ".join(clauses(block, at.start())[0])), call)
+                said = {clause: text for _, clause, text in named_clauses(block, at.start())[0]}
+                left_out = methods.get(at[1], set())
+                if left_out - set(said):
+                    raise SystemExit(f"dev/check/believed/calls.txt: {name}::{at[1]} has no clause {', '.join(left_out - set(said))}")
+                self.add_names(file, words(" ".join(text for clause, text in said.items() if clause not in left_out)), call)
                 for word in re.findall(r"\b[A-Z]\w*", signature(block, at.start())):
                     self.add(self.rust_type(file, word), call)
 

@@ -152,6 +152,16 @@ impl Counter {
     }
 }
 """
+# Another method, which keeps the relation.
+MORE = """
+impl Counter {
+    pub fn more(&mut self)
+        ensures kept { (xs : List Text) → Holds self.old xs → Holds self.new xs }
+    {
+        self.count = self.count;
+    }
+}
+"""
 STEPS = "pub record Holds (n : ℕ) (xs : List Text) : Type 0 where\n  pub count : n ≡ length xs\n"
 
 
@@ -189,6 +199,20 @@ class Carried(SmallCheckout):
     def test_only_required(self):
         self.assertEqual(self.without("ensures first { Holds result [] }", "requires { ¬ (Holds 0 []) }"),
                          ["Holds is a premise of the clause ensures added of high::Counter::add, and no other clause concludes it"])
+
+    def test_not_kept_by_a_method_that_is_left_out(self):
+        self.write("calls.txt", "high read\nhigh Counter new more count\n")
+        self.add("crates/high/src/lib.rt", MORE)
+        self.assertEqual(self.judged()[1], [])
+        self.assertEqual(self.without("Holds self.old xs → Holds self.new (text ∷ xs)", "xs ≡ xs"),
+                         ["Holds is a premise of the clause ensures of high::Counter::count, and high::Counter::add does not conclude it of what it changes"])
+
+    def test_clause_that_is_left_out(self):
+        self.write("calls.txt", "high read\nhigh Counter new add-added count\n")
+        self.assertEqual([fault.removeprefix(f"{self.FILE}: ") for fault in self.judged()[1]],
+                         ["Holds is a premise of the clause ensures of high::Counter::count, and high::Counter::add does not conclude it of what it changes"])
+        self.write("calls.txt", "high read\nhigh Counter new add-other count\n")
+        self.assertRaises(SystemExit, self.judged)
 
     def test_in_a_definition_that_stays(self):
         self.write("crates/high/specs/plain/Adding.antt", "use Rattle.high.specs.plain.Steps.{Holds}\n"

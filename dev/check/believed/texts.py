@@ -112,6 +112,15 @@ def named_clauses(text, start):
         said.append((found[1], found[2] or "", text[found.end():at]))
 
 
+def methods_of(said):
+    """The methods that a line of calls.txt names, each with the names of its clauses that are left out: `METHOD`, or `METHOD-CLAUSE` once for each."""
+    methods = {}
+    for word in said:
+        method, _, clause = word.partition("-")
+        methods.setdefault(method, set()).update({clause} - {""})
+    return methods
+
+
 def clauses_in(block):
     """The clauses of all functions of a block, as one text."""
     return "".join(" ".join(clauses(block, at.start())[0]) for at in re.finditer(r"\bfn \w+", block))
