@@ -1,5 +1,5 @@
 -- Patterns of a table that are not notAllowed, and what they take.
-use Rattle.std.proofs.Common.{◌≡◌, ℕ, zero, suc, ◌+◌, ◌<◌, ◌≤◌, List, [], ◌∷◌, ◌++◌, All, false, arith, length, get_or, slice_get, refl, subst, sym}
+use Rattle.std.proofs.Common.{◌≡◌, ℕ, zero, suc, ◌+◌, ◌<◌, ◌≤◌, List, [], ◌∷◌, ◌++◌, All, false, arith, inl, inr, length, get_or, slice_get, refl, subst, sym}
 use Rattle.std.proofs.lemmas.List.Elements.{All-head, All-tail}
 use Rattle.std.proofs.lemmas.Option.{slice_get-get_or}
 use Rattle.rng_model.specs.simple.Tree.{Simple, choice, group, interleave, s_not_allowed, s_empty, s_text, s_leaf, s_attribute, s_list, s_data, s_data_except}
@@ -18,7 +18,7 @@ use Rattle.rng_deriv_table.specs.views.PatternTable.{ArePartsBelow, IsPatternTab
 use Rattle.rng_deriv_table.specs.views.Trees.{choice_from, choice_over, tree_of, tree_over}
 use Rattle.rng_deriv_table.proofs.Trees.{tree_of-over_parts}
 use Rattle.rng_deriv_ways.proofs.PatternNodes.{IsAttribute, IsStringLeaf, a_datatype, a_list, a_value, an_attribute, an_except, found_attribute, found_string}
-use Rattle.rng_reasons.specs.AllowedPatterns.{AllowedTakeSome, BareTakeNoAttribute, HasNoNotAllowed, LeavesTakeSome, TakesSome}
+use Rattle.rng_reasons.specs.AllowedPatterns.{AllowedTakeSome, BareTakeNoAttribute, HasNoNotAllowed, IsReduced, LeavesTakeSome, TakesSome}
 
 -- ---- what they take
 
@@ -63,6 +63,19 @@ string_allowed a_datatype = tt
 string_allowed an_except = tt
 string_allowed a_value = tt
 
+is_reduced : (p : Simple ℕ) → (is_not_allowed p ≡ false → HasNoNotAllowed p) → IsReduced p
+is_reduced s_not_allowed allowed = inl refl
+is_reduced s_empty allowed = inr tt
+is_reduced s_text allowed = inr tt
+is_reduced (s_leaf k) allowed = inr tt
+is_reduced (s_attribute c p) allowed = inr tt
+is_reduced (s_list p) allowed = inr tt
+is_reduced (s_data d) allowed = inr tt
+is_reduced (s_data_except d p) allowed = inr tt
+is_reduced (s_value d v) allowed = inr tt
+is_reduced (s_one_or_more p) allowed = inr (allowed refl)
+is_reduced (s_joined k p q) allowed = inr (allowed refl)
+
 module _ (of : ℕ → Simple ℕ) where
   abbrev IsPartAllowed : ℕ → Type 0
   IsPartAllowed k = HasNoNotAllowed (of k)
@@ -104,3 +117,6 @@ module _ (s : Table) (ps : List Node) (kept : IsPatternTable ps) where
   -- a pattern that is not notAllowed
   pub allowed_there : (i : ℕ) → i < length ps → is_not_allowed (tree_of s ps i) ≡ false → HasNoNotAllowed (tree_of s ps i)
   allowed_there i within e = allowed_below (i + 1) i (omega arith) within e
+
+  pub reduced_there : (i : ℕ) → i < length ps → IsReduced (tree_of s ps i)
+  reduced_there i within = is_reduced (tree_of s ps i) (allowed_there i within)

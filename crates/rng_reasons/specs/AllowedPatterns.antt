@@ -22,6 +22,10 @@ HasNoNotAllowed (s_value d v) = ⊤
 HasNoNotAllowed (s_one_or_more p) = HasNoNotAllowed p
 HasNoNotAllowed (s_joined k p q) = HasNoNotAllowed p × HasNoNotAllowed q
 
+-- notAllowed is the whole pattern, or occurs nowhere in it
+abbrev pub IsReduced : Simple ℕ → Type 0
+IsReduced p = (p ≡ s_not_allowed) ⊎ HasNoNotAllowed p
+
 module _ (g : Reading) where
   -- the pattern takes some attributes with some items
   abbrev pub TakesSome : Simple ℕ → Type 0

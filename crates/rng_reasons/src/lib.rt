@@ -13,10 +13,12 @@ ghost use Rattle.rng_reasons.specs.AllowedPatterns.{AllowedTakeSome, BareTakeNoA
 mod named_attributes;
 mod options;
 mod reasons;
+mod reduced_patterns;
 mod tag_faults;
 
 pub use options::{TagBeginning, TagOptions, tag_options};
 pub use reasons::{LeftHere, Reason, StartTag, end_reason, start_reason};
+pub use reduced_patterns::reduced_pattern_law;
 pub use tag_faults::{TagFault, tag_fault};
 
 /// States what it means that something is left (RELAX NG Specification, sections 4.20 and 6.2). The function does nothing:
