@@ -242,7 +242,7 @@ impl EventDocument {
     /// memory are linear in the number of patterns that the matcher keeps. RELAX NG Specification, sections 6.2 and 6.2.7.
     pub fn expected(&self) -> Result<Expected<'_>, OutOfMemory>
         ensures { IfOk result (λ e. (calls : List Event) (taken : HasTaken self.now calls)
-            → MayFollow (reading_of self.now.grammar) self.now.matching.progress (next_of e) taken.events) }
+            → MayFollow (reading_of self.now.grammar) self.now.matching (next_of e) taken.events) }
     {
         let Some(state) = &self.state else {
             return Err(OutOfMemory);
@@ -261,7 +261,7 @@ impl EventDocument {
     /// for each name that is the only one of a class. RELAX NG Specification, sections 6.2.7 and 6.2.8.
     pub fn expected_tag(&self, name: ExpandedName<'_>) -> Result<ExpectedTag<'_>, OutOfMemory>
         ensures { IfOk result (λ tag. (calls : List Event) (taken : HasTaken self.now calls)
-            → MayHave (reading_of self.now.grammar) self.now.matching.progress (name_told name.entry) (tag_of tag) taken.events) }
+            → MayHave (reading_of self.now.grammar) self.now.matching (name_told name.entry) (tag_of tag) taken.events) }
     {
         let Some(state) = &self.state else {
             return Err(OutOfMemory);
@@ -279,7 +279,7 @@ impl EventDocument {
     /// Fails and costs as `expected` does. RELAX NG Specification, sections 6.2 and 6.2.7.
     pub fn expected_in_place(&self) -> Result<Expected<'_>, OutOfMemory>
         ensures { IfOk result (λ e. (calls : List Event) (taken : HasTaken self.now calls)
-            → MayReplace (reading_of self.now.grammar) self.now.matching.progress (next_of e) taken.events) }
+            → MayReplace (reading_of self.now.grammar) self.now.matching (next_of e) taken.events) }
     {
         let Some(state) = &self.state else {
             return Err(OutOfMemory);
@@ -403,7 +403,7 @@ impl EventDocument {
         ensures mode { StaysInMode self.old.matching.progress self.new.matching.progress }
         ensures same { OnOk result (self.new.fault ≡ self.old.fault) }
         ensures reason { IfOk result (λ reason. (calls : List Event) (taken : HasTaken self.old calls)
-            → IsWhyNoEnd (reading_of self.old.grammar) self.old.matching.progress self.new.matching.progress reason taken.events) }
+            → IsWhyNoEnd (reading_of self.old.grammar) self.old.matching.progress self.new.matching reason taken.events) }
         ensures failed { OnErr result ((self.new.fault ≡ self.old.fault) ⊎ (self.new.fault ≡ Some EventFault.Memory)) }
     {
         if self.may_end()? {
@@ -486,7 +486,7 @@ impl EventDocument {
     /// Returns why an end leaves nothing, where it may not come.
     fn reason_of_end(&self) -> Result<Reason, OutOfMemory>
         ensures { IfOk result (λ reason. (es : List Event) → Knows self.now.matching es
-            → HasEndReason (reading_of self.now.grammar) self.now.matching.progress reason es) }
+            → HasEndReason (reading_of self.now.grammar) self.now.matching reason es) }
     {
         let Some(state) = &self.state else {
             return Err(OutOfMemory);

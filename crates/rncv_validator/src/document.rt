@@ -140,7 +140,7 @@ impl Document {
     /// the matcher keeps. RELAX NG Specification, sections 6.2 and 6.2.7.
     pub fn expected(&self) -> Result<Expected<'_>, OutOfMemory>
         ensures { IfOk result (λ e. (bytes : List ℕ) (fed : HasBeenFed self.now bytes)
-            → MayFollow (reading_of self.now.grammar) self.now.matching.progress (next_of e) fed.events) }
+            → MayFollow (reading_of self.now.grammar) self.now.matching (next_of e) fed.events) }
     {
         let Some(state) = &self.state else {
             return Err(OutOfMemory);

@@ -17,21 +17,11 @@ use Rattle.rng_deriv_events.specs.declared.progress.Progress.TheVariants as prog
 use Rattle.rng_reasons.specs.Reasons.{Alternatives, IsEndReason, IsStartReason}
 use Rattle.rng_reasons.specs.declared.reasons.Reason.{Reason}
 use Rattle.rng_reasons.specs.declared.reasons.Reason.TheVariants as reasons
-use Rattle.rng_deriv.specs.views.Followers.{HasEndReason, HasStartReason, HaveLeft, IsEventReason, IsReason, LeaveSuch, TellsNone}
+use Rattle.rng_deriv.specs.views.Followers.{HasEndReason, HasStartReason, HaveLeft, IsEventReason, IsReason, TellsNone, alternatives_of}
 use Rattle.rng_deriv.specs.views.KeptEvents.{KeepsFailed}
-use Rattle.rng_deriv.specs.views.Matchers.{IsStateBy, Knows, matching_in}
+use Rattle.rng_deriv.specs.views.Matchers.{IsStateBy, Knows, Matching, matching_in, trees_in}
 use Rattle.rng_deriv.specs.declared.matcher_state.MatcherState.{MatcherState}
 use Rattle.rng_deriv.proofs.FollowingEvents.{is_left}
-
-leave_weaker : (g : Reading) (Old New : Alternatives → Type 0) → ((left : Alternatives) → Old left → New left) → (es : List Event)
-    → LeaveSuch g Old es → LeaveSuch g New es
-leave_weaker g Old New weaker es leave = record {
-  matcher = leave.matcher;
-  settled = leave.settled;
-  stands = leave.stands;
-  settles = leave.settles;
-  are_so = weaker _ leave.are_so;
-}
 
 -- no reason of a start says that by the patterns it leaves something
 start_reason_is : (g : Reading) (trees : List (Simple ℕ)) (q : Name) (xs : List Attribute) (may_end : Bool) (left : Alternatives) (o : Option Reason)
@@ -47,15 +37,16 @@ module _ (g : Reading) (trees : List (Simple ℕ)) (event : FailedEvent) (may_en
   -- what is so of the alternatives before a kept event of this kind is why it leaves nothing
   reason_is : (AreSo : Alternatives → Type 0) (r : Reason)
       → ((kind : EventKind) → IsFailedEvent event kind → (left : Alternatives) → AreSo left → IsEventReason g trees kind may_end left r)
-      → (p : Progress) → KeepsFailed event may_end p → (es : List Event) → HaveLeft g AreSo p es → IsReason g p trees (Some r) es
+      → (p : Progress) → KeepsFailed event may_end p → (es : List Event) → HaveLeft g trees AreSo p es → IsReason g p trees (Some r) es
   reason_is AreSo r why (progress.Going p line) keeps es left = absurd keeps
-  reason_is AreSo r why (progress.Failed line left) keeps es w = record {
-    fails = w.fails;
-    may_end = left.value.may_end;
-    ends = w.ends;
-    leave = leave_weaker g AreSo (λ l. IsEventReason g trees w.fails.kind left.value.may_end l r)
-        (λ l so. subst (λ m. IsEventReason g trees w.fails.kind m l r) (sym keeps.1) (why w.fails.kind (keeps.0 w.fails.kind w.is) l so)) w.fails.before w.leave;
-  }
+  reason_is AreSo r why (progress.Failed line left) keeps es w =
+      let kind = w.lead.fails.kind in
+      let now = alternatives_of trees (left_of left.value) in
+      record {
+        fails = w.lead;
+        reduced = w.reduced;
+        is = subst (λ m. IsEventReason g trees kind m now r) (sym keeps.1) (why kind (keeps.0 kind w.lead.is) now w.are_so);
+      }
   reason_is AreSo r why progress.Lost keeps es left = absurd keeps
 
 -- ---- at a start
@@ -70,28 +61,31 @@ start_told g trees q xs event may_end is p keeps o es told =
 
 -- ---- at an end that may not come
 
-pub end_told : (g : Reading) (trees : List (Simple ℕ)) (p : Progress) → KeepsFailed events.End false p → (r : Reason) (es : List Event)
-    → HasEndReason g p r es → IsReason g p trees (Some r) es
-end_told g trees p keeps r es told =
-    reason_is g trees events.End false (λ left. IsEndReason g left r) r
-    (λ kind at left so. subst (λ k. IsEventReason g trees k false left r) (sym at) so) p keeps es told
+pub end_told : (g : Reading) (m : Matching) → KeepsFailed events.End false m.progress → (r : Reason) (es : List Event)
+    → HasEndReason g m r es → IsReason g m.progress (trees_in m) (Some r) es
+end_told g m keeps r es told =
+    reason_is g (trees_in m) events.End false (λ left. IsEndReason g left r) r
+    (λ kind at left so. subst (λ k. IsEventReason g (trees_in m) k false left r) (sym at) so) m.progress keeps es told
 
 -- ---- where nothing is found
 
 left_there : (t : Table) (s : MatcherState) (state : IsStateBy t s) (event : FailedEvent) (may_end : Bool) (p : Progress) → s.progress ≡ p
-    → KeepsFailed event may_end p → (es : List Event) → Knows (matching_in t s) es → HaveLeft (reading_of t) (λ left. Unit {0}) p es
+    → KeepsFailed event may_end p → (es : List Event) → Knows (matching_in t s) es
+    → HaveLeft (reading_of t) (trees_in (matching_in t s)) (λ left. Unit {0}) p es
 left_there t s state event may_end (progress.Going p line) is keeps es known = absurd keeps
 left_there t s state event may_end (progress.Failed line left) is keeps es known =
-    subst (λ p. HaveLeft (reading_of t) (λ left. Unit {0}) p es) is (is_left t s state (left_of left.value) (ap innermost_of is) (λ left. Unit {0}) tt es known)
+    subst (λ p. HaveLeft (reading_of t) (trees_in (matching_in t s)) (λ left. Unit {0}) p es) is
+    (is_left t s state (left_of left.value) (ap innermost_of is) (λ left. Unit {0}) tt es known)
 left_there t s state event may_end progress.Lost is keeps es known = absurd keeps
 
-pub nothing_told : (t : Table) (s : MatcherState) (state : IsStateBy t s) (trees : List (Simple ℕ)) (event : FailedEvent) (may_end : Bool)
-    → ((kind : EventKind) → IsFailedEvent event kind → (left : Alternatives) → IsEventReason (reading_of t) trees kind may_end left reasons.NothingMatches)
+pub nothing_told : (t : Table) (s : MatcherState) (state : IsStateBy t s) (event : FailedEvent) (may_end : Bool)
+    → ((kind : EventKind) → IsFailedEvent event kind → (left : Alternatives)
+        → IsEventReason (reading_of t) (trees_in (matching_in t s)) kind may_end left reasons.NothingMatches)
     → KeepsFailed event may_end s.progress → (es : List Event) → Knows (matching_in t s) es
-    → IsReason (reading_of t) s.progress trees (Some reasons.NothingMatches) es
-nothing_told t s state trees event may_end is keeps es known =
-    reason_is (reading_of t) trees event may_end (λ left. Unit {0}) reasons.NothingMatches (λ kind at left so. is kind at left) s.progress keeps es
-    (left_there t s state event may_end s.progress refl keeps es known)
+    → IsReason (reading_of t) s.progress (trees_in (matching_in t s)) (Some reasons.NothingMatches) es
+nothing_told t s state event may_end is keeps es known =
+    reason_is (reading_of t) (trees_in (matching_in t s)) event may_end (λ left. Unit {0}) reasons.NothingMatches (λ kind at left so. is kind at left)
+    s.progress keeps es (left_there t s state event may_end s.progress refl keeps es known)
 
 pub text_is : (g : Reading) (trees : List (Simple ℕ)) (may_end : Bool) (kind : EventKind) → IsFailedEvent events.Text kind → (left : Alternatives)
     → IsEventReason g trees kind may_end left reasons.NothingMatches

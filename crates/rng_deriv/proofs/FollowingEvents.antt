@@ -1,6 +1,7 @@
 -- What may come next, by what is left.
 use Rattle.std.proofs.Common.{◌≡◌, ℕ, ◌<◌, List, [], ◌∷◌, All, length, map, refl, sym, ap, subst, Bool, true, false, Some, None}
-use Rattle.std.proofs.lemmas.List.Elements.{All-head, All-nil}
+use Rattle.std.proofs.lemmas.List.Elements.{All-head, All-map, All-nil, All-weaker}
+use Rattle.std.proofs.lemmas.Option.{same_Some}
 use Rattle.rng_model.specs.simple.Table.{Table}
 use Rattle.rng_model.specs.simple.Tree.{Simple}
 use Rattle.rng_model.specs.documents.PyxTrees.{Event}
@@ -9,18 +10,19 @@ use Rattle.rng_deriv_table.specs.views.Node.{Node}
 use Rattle.rng_deriv_table.specs.views.Trees.{trees, tree_of}
 use Rattle.rng_deriv_table.specs.declared.pattern.PatternNumber.{PatternNumber}
 use Rattle.rng_deriv_events.specs.views.Innermost.{innermost_of}
-use Rattle.rng_deriv_events.specs.views.LevelsLeft.{LevelLeft, level_left}
+use Rattle.rng_deriv_events.specs.views.LevelsLeft.{LevelLeft, left_of, level_in, level_left}
 use Rattle.rng_deriv_events.specs.views.Numbers as numbers
 use Rattle.rng_deriv_events.specs.views.Numbers.{IsInside}
-use Rattle.rng_deriv_events.specs.views.Positions.{IsLeftInside, IsLost, LeadTo, LeadUp}
+use Rattle.rng_deriv_events.specs.views.Positions.{IsLeftInside, IsLost}
 use Rattle.rng_deriv_events.specs.declared.innermost.Innermost.{Innermost}
 use Rattle.rng_deriv_events.specs.declared.progress.Progress.{Progress}
 use Rattle.rng_deriv_events.specs.declared.progress.Progress.TheVariants as progress
 use Rattle.rng_deriv_events.proofs.MarkedLevels.{innermost_inside, innermost_leads}
+use Rattle.rng_reasons.specs.AllowedPatterns.{IsReduced}
 use Rattle.rng_reasons.specs.Reasons.{Alternatives}
-use Rattle.rng_deriv.specs.views.Followers.{HaveLeft, LeaveSuch}
-use Rattle.rng_deriv.specs.views.Matchers.{IsStateBy, Knows, matching_in}
-use Rattle.rng_deriv.specs.views.Serving.{nodes_of, nodes_unless}
+use Rattle.rng_deriv.specs.views.Followers.{AreAllReduced, HaveLeft, LeaveSuch, alternatives_of}
+use Rattle.rng_deriv.specs.views.Matchers.{IsStateBy, Knows, matching_in, trees_in}
+use Rattle.rng_deriv.specs.views.Serving.{IsTableReduced, nodes_of, nodes_unless}
 use Rattle.rng_deriv.specs.views.Alternatives.{alternatives_at, numbers_at, unless_lost}
 use Rattle.rng_deriv.specs.declared.matcher_state.MatcherState.{MatcherState}
 use Rattle.rng_deriv.proofs.ServedTables.{all_below_there, none_there}
@@ -43,6 +45,13 @@ pub left_trees : (t : Table) (lost : Bool) (ns : List Node) (now : List PatternN
 left_trees t true ns now all = ap (map (numbers.tree_of (trees t []))) (sym (none_inside t true ns now refl all))
 left_trees t false ns now all = refl
 
+left_reduced : (t : Table) (lost : Bool) (ns : List Node) (now : List PatternNumber) → (lost ≡ false → IsTableReduced t ns)
+    → All (λ n. n.0 < length ns) (unless_lost lost now) → All IsReduced (map (λ (n : PatternNumber). tree_of t ns n.0) (unless_lost lost now))
+left_reduced t true ns now reduced below = All-nil IsReduced
+left_reduced t false ns now reduced below =
+    All-map IsReduced (λ (n : PatternNumber). tree_of t ns n.0) now
+    (All-weaker (λ (n : PatternNumber). n.0 < length ns) (λ (n : PatternNumber). IsReduced (tree_of t ns n.0)) (λ n b. reduced refl n.0 b) now below)
+
 -- ---- what is left
 
 -- what the code returns of it
@@ -60,23 +69,13 @@ numbers_left false l = refl
 abbrev pub alternatives : List (Simple ℕ) → List (Simple ℕ) → Bool → Alternatives
 alternatives behind in_place has_text = record { behind = behind; in_place = in_place; has_text = has_text }
 
-module _ (g : Reading) (trees : List (Simple ℕ)) (l : LevelLeft) (AreSo : Alternatives → Type 0)
-    (are_so : AreSo (alternatives (map (numbers.tree_of trees) l.now) (map (numbers.tree_of trees) l.in_place) l.has_text)) where
-  leave_such : (es : List Event) → LeadTo g trees l es → LeaveSuch g AreSo es
-  leave_such es lead = record {
-    matcher = lead.matcher;
-    settled = lead.settled;
-    stands = lead.stands;
-    settles = lead.settles;
-    are_so = subst (λ b. AreSo (alternatives lead.settled.now lead.matcher.state.now b)) lead.has_text
-        (subst (λ ps. AreSo (alternatives lead.settled.now ps l.has_text)) (sym lead.in_place)
-        (subst (λ ps. AreSo (alternatives ps (map (numbers.tree_of trees) l.in_place) l.has_text)) (sym lead.now) are_so));
-  }
-
-  have_left : (p : Progress) (es : List Event) → LeadUp g trees p l es → HaveLeft g AreSo p es
-  have_left (progress.Going p line) es lead = leave_such es lead
-  have_left (progress.Failed line left) es w = record { fails = w.fails; is = w.is; ends = w.ends; leave = leave_such w.fails.before w.left }
-  have_left progress.Lost es lead = tt
+have_left : (g : Reading) (trees : List (Simple ℕ)) (AreSo : Alternatives → Type 0) (p : Progress) (es : List Event) (l : LevelLeft)
+    → innermost_of p ≡ Some l → LeaveSuch g trees AreSo p es l → HaveLeft g trees AreSo p es
+have_left g trees AreSo (progress.Going p line) es l is w =
+    subst (LeaveSuch g trees AreSo (progress.Going p line) es) (sym (same_Some (level_in p.value) l is)) w
+have_left g trees AreSo (progress.Failed line left) es l is w =
+    subst (LeaveSuch g trees AreSo (progress.Failed line left) es) (sym (same_Some (left_of left.value) l is)) w
+have_left g trees AreSo progress.Lost es l is w = tt
 
 module _ (t : Table) (s : MatcherState) (state : IsStateBy t s) (l : LevelLeft) (is : innermost_of s.progress ≡ Some l) where
   inside : IsLeftInside (trees t (nodes_of s.learned.value)) l
@@ -91,17 +90,30 @@ module _ (t : Table) (s : MatcherState) (state : IsStateBy t s) (l : LevelLeft) 
   abbrev in_table : List PatternNumber → List (Simple ℕ)
   in_table ns = map (λ (n : PatternNumber). tree_of t s.learned.value.table n.0) (unless_lost s.learned.value.lost ns)
 
-  -- what is so of the alternatives in the table is so of what the events leave
-  pub is_left : (AreSo : Alternatives → Type 0) → AreSo (alternatives (in_table l.now) (in_table l.in_place) l.has_text)
-      → (es : List Event) → Knows (matching_in t s) es → HaveLeft (reading_of t) AreSo s.progress es
-  is_left AreSo are_so es known =
-      let at = trees t (nodes_of s.learned.value) in
+  -- what is so of the alternatives in the table is so of them as contracts see them
+  in_view : (AreSo : Alternatives → Type 0) → AreSo (alternatives (in_table l.now) (in_table l.in_place) l.has_text)
+      → AreSo (alternatives_of (trees_in (matching_in t s)) l)
+  in_view AreSo are_so =
+      let at = trees_in (matching_in t s) in
       let lost = s.learned.value.lost in
       let table = s.learned.value.table in
-      have_left (reading_of t) at l AreSo
-      (subst (λ ps. AreSo (alternatives (map (numbers.tree_of at) l.now) ps l.has_text)) (left_trees t lost table l.in_place inside.in_place)
-      (subst (λ ps. AreSo (alternatives ps (in_table l.in_place) l.has_text)) (left_trees t lost table l.now inside.now) are_so)) s.progress es
-      (innermost_leads (reading_of t) at s.progress l es is known)
+      subst (λ ps. AreSo (alternatives (map (numbers.tree_of at) l.now) ps l.has_text)) (left_trees t lost table l.in_place inside.in_place)
+      (subst (λ ps. AreSo (alternatives ps (in_table l.in_place) l.has_text)) (left_trees t lost table l.now inside.now) are_so)
+
+  table_reduced : AreAllReduced (alternatives (in_table l.now) (in_table l.in_place) l.has_text)
+  table_reduced = record {
+    behind = left_reduced t s.learned.value.lost s.learned.value.table l.now state.reduced alternatives_there;
+    in_place = left_reduced t s.learned.value.lost s.learned.value.table l.in_place state.reduced in_place_there;
+  }
+
+  -- what is so of the alternatives in the table is so of what the events leave
+  pub is_left : (AreSo : Alternatives → Type 0) → AreSo (alternatives (in_table l.now) (in_table l.in_place) l.has_text)
+      → (es : List Event) → Knows (matching_in t s) es → HaveLeft (reading_of t) (trees_in (matching_in t s)) AreSo s.progress es
+  is_left AreSo are_so es known = have_left (reading_of t) (trees_in (matching_in t s)) AreSo s.progress es l is (record {
+    lead = innermost_leads (reading_of t) (trees_in (matching_in t s)) s.progress l es is known;
+    reduced = in_view AreAllReduced table_reduced;
+    are_so = in_view AreSo are_so;
+  })
 
   -- ---- the alternatives behind the string since the last tag, or in its place
 
@@ -110,7 +122,7 @@ module _ (t : Table) (s : MatcherState) (state : IsStateBy t s) (l : LevelLeft) 
   there_at false = alternatives_there
 
   pub is_left_at : (in_place : Bool) (AreSo : List (Simple ℕ) → Type 0) → AreSo (in_table (left_at in_place l)) → (es : List Event)
-      → Knows (matching_in t s) es → HaveLeft (reading_of t) (λ left. AreSo (alternatives_at in_place left)) s.progress es
+      → Knows (matching_in t s) es → HaveLeft (reading_of t) (trees_in (matching_in t s)) (λ left. AreSo (alternatives_at in_place left)) s.progress es
   is_left_at true AreSo are_so = is_left (λ left. AreSo left.in_place) are_so
   is_left_at false AreSo are_so = is_left (λ left. AreSo left.behind) are_so
 

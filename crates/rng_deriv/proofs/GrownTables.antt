@@ -1,5 +1,5 @@
 -- What is known of a document stays when patterns are added.
-use Rattle.std.proofs.Common.{◌≡◌, ◌∙◌, ℕ, List, All, false, length, map, sym, subst, Option, Some, None}
+use Rattle.std.proofs.Common.{◌≡◌, ◌∙◌, ℕ, List, All, false, length, map, refl, sym, ap, subst, Option, Some, None}
 use Rattle.std.specs.List.{AllZip}
 use Rattle.std.proofs.lemmas.List.Elements.{All-weaker}
 use Rattle.rng_names.specs.plain.Keys.{Keys}
@@ -12,10 +12,10 @@ use Rattle.rng_deriv_table.specs.views.Node.{Node}
 use Rattle.rng_deriv_table.specs.views.PatternTable as nodes
 use Rattle.rng_deriv_table.specs.views.Trees.{trees}
 use Rattle.rng_deriv_table.specs.declared.pattern.PatternNumber.{PatternNumber}
-use Rattle.rng_deriv_events.specs.views.LevelsLeft.{left_of}
+use Rattle.rng_deriv_events.specs.views.LevelsLeft.{LevelLeft, left_of, level_in}
 use Rattle.rng_deriv_events.specs.views.Numbers.{IsInside, Longer, tree_of}
 use Rattle.rng_deriv_events.specs.views.OpenPositions.{IsPositionKept, open_level, open_position, open_state}
-use Rattle.rng_deriv_events.specs.views.Positions.{HasCome, IsKnown, IsProgressInside}
+use Rattle.rng_deriv_events.specs.views.Positions.{HasCome, IsKnown, IsLeftInside, IsProgressInside, LeadUp}
 use Rattle.rng_deriv_events.specs.views.States.{IsLevelInside}
 use Rattle.rng_deriv_events.specs.views.Strings.{HeldString, IsHeld, IsHeldInside}
 use Rattle.rng_deriv_events.specs.declared.position.Position.{Position}
@@ -23,12 +23,14 @@ use Rattle.rng_deriv_events.specs.declared.progress.Progress.{Progress}
 use Rattle.rng_deriv_events.specs.declared.progress.Progress.TheVariants as progress
 use Rattle.rng_deriv_events.specs.declared.state.WaysOut.{WaysOut}
 use Rattle.rng_deriv_events.proofs.KeptLevels.{kept_longer}
-use Rattle.rng_deriv_events.proofs.MarkedLevels.{lead_stays, left_stays}
+use Rattle.rng_deriv_events.proofs.MarkedLevels.{innermost_inside, lead_stays, left_stays}
 use Rattle.rng_deriv_events.proofs.Numbers.{trees_stay}
 use Rattle.rng_deriv_events.proofs.OpenStates.{position_inside}
 use Rattle.rng_deriv_events.proofs.Positions.{state_stays}
 use Rattle.rng_deriv_events.proofs.StateSteps.{level_stays}
-use Rattle.rng_deriv.specs.views.Matchers.{IsStateBy, Knows, matching_in}
+use Rattle.rng_reasons.specs.Reasons.{Alternatives}
+use Rattle.rng_deriv.specs.views.Followers.{AreAllReduced, HaveLeft, LeaveSuch, alternatives_of}
+use Rattle.rng_deriv.specs.views.Matchers.{IsStateBy, Knows, matching_in, trees_in}
 use Rattle.rng_deriv.specs.views.Serving.{IsServedBy, Serves, nodes_of, nodes_unless}
 use Rattle.rng_deriv.specs.declared.learned.Learned.{Learned}
 use Rattle.rng_deriv.specs.declared.matcher_state.MatcherState.{MatcherState}
@@ -84,6 +86,31 @@ module _ (g : Reading) (keys : Keys) (old new : List (Simple ℕ)) (longer : Lon
       record { fails = f.fails; is = f.is; left = lead_stays g old new (left_of left.value) f.fails.before longer inside f.left; ends = f.ends }
   known_stays progress.Lost k es known = tt
 
+  -- ---- what is left
+
+  alternatives_stay : (l : LevelLeft) → IsLeftInside old l → alternatives_of old l ≡ alternatives_of new l
+  alternatives_stay l inside =
+      ap (λ ps. record { behind = ps; in_place = map (tree_of old) l.in_place; has_text = l.has_text }) (sym (trees_stay old new longer l.now inside.now))
+      ∙ ap (λ ps. record { behind = map (tree_of new) l.now; in_place = ps; has_text = l.has_text }) (sym (trees_stay old new longer l.in_place inside.in_place))
+
+  such_stays : (AreSo : Alternatives → Type 0) (p : Progress) (es : List Event) (l : LevelLeft) → IsLeftInside old l
+      → (LeadUp g old p l es → LeadUp g new p l es) → LeaveSuch g old AreSo p es l → LeaveSuch g new AreSo p es l
+  such_stays AreSo p es l inside leads w = record {
+    lead = leads w.lead;
+    reduced = subst AreAllReduced (alternatives_stay l inside) w.reduced;
+    are_so = subst AreSo (alternatives_stay l inside) w.are_so;
+  }
+
+  pub have_stays : (AreSo : Alternatives → Type 0) (p : Progress) → IsProgressInside g keys old p → (es : List Event) → HaveLeft g old AreSo p es
+      → HaveLeft g new AreSo p es
+  have_stays AreSo (progress.Going p line) k es w =
+      let inside = innermost_inside g keys old (progress.Going p line) (level_in p.value) refl k in
+      such_stays AreSo (progress.Going p line) es (level_in p.value) inside (lead_stays g old new (level_in p.value) es longer inside) w
+  have_stays AreSo (progress.Failed line left) inside es w =
+      such_stays AreSo (progress.Failed line left) es (left_of left.value) inside
+      (λ f. record { fails = f.fails; is = f.is; left = lead_stays g old new (left_of left.value) f.fails.before longer inside f.left; ends = f.ends }) w
+  have_stays AreSo progress.Lost k es w = tt
+
 -- ---- a state whose table is there
 
 module _ (t : Table) (s : MatcherState) (state : IsStateBy t s) (l : Learned) (same : l ≡ s.learned.value) (there : l.lost ≡ false) where
@@ -108,3 +135,10 @@ module _ (t : Table) (s : MatcherState) (state : IsStateBy t s) (l : Learned) (s
     pub known_grown : (es : List Event) → Knows (matching_in t s) es → IsKnown (reading_of t) (trees t new) s.progress es
     known_grown es known =
         known_stays (reading_of t) l.keys (trees t l.table) (trees t new) (trees_longer t l.table new longer) s.progress state_inside es (known_there es known)
+
+    pub left_grown : (AreSo : Alternatives → Type 0) (es : List Event) → HaveLeft (reading_of t) (trees_in (matching_in t s)) AreSo s.progress es
+        → HaveLeft (reading_of t) (trees t new) AreSo s.progress es
+    left_grown AreSo es w =
+        have_stays (reading_of t) l.keys (trees t l.table) (trees t new) (trees_longer t l.table new longer) AreSo s.progress state_inside es
+        (subst (λ b. HaveLeft (reading_of t) (trees t (nodes_unless b l.table)) AreSo s.progress es) there
+        (subst (λ (n : Learned). HaveLeft (reading_of t) (trees t (nodes_of n)) AreSo s.progress es) (sym same) w))

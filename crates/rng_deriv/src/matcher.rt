@@ -19,6 +19,7 @@ use crate::grammar_derivatives::GrammarDerivatives;
 use crate::matcher_state::MatcherState;
 use rng_deriv_events::EventMatcher;
 use rng_model::{Event, Events, OutOfMemory, Outcome, SimpleGrammar};
+use rng_reasons::reduced_pattern_law;
 use std::alloc::Global;
 use std::marker::Model;
 
@@ -96,6 +97,7 @@ impl<'a> Matcher<'a> {
     {
         let (derivatives, progress) = self.matcher.into_parts();
         let GrammarDerivatives { learned, .. } = derivatives;
+        reduced_pattern_law(&learned.table);
         MatcherState { learned, progress }
     }
 

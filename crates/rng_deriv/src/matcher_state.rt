@@ -22,7 +22,8 @@ use rng_deriv_ways::Context;
 use rng_expected::{Expected, ExpectedTag, expected, expected_tag};
 use rng_model::{Name, OutOfMemory, SimpleGrammar};
 use rng_reasons::{
-    LeftHere, Reason, StartTag, TagBeginning, TagOptions, end_reason, start_reason, tag_options,
+    LeftHere, Reason, StartTag, TagBeginning, TagOptions, end_reason, reduced_pattern_law,
+    start_reason, tag_options,
 };
 use std::alloc::Global;
 use std::mem;
@@ -105,7 +106,7 @@ impl MatcherState {
     ) -> Result<Option<Expected<'g>>, OutOfMemory>
         requires { IsStateBy grammar.now self.now }
         ensures expected { IfOk result (λ o. IfSome o (λ e. (es : List trees.Event) → Knows (matching_in grammar.now self.now) es
-            → MayFollow (reading_of grammar.now) self.now.progress (next_of e) es)) }
+            → MayFollow (reading_of grammar.now) (matching_in grammar.now self.now) (next_of e) es)) }
         ensures none { IfOk result (λ o. (o ≡ None) ↔ HasRunOut (matching_in grammar.now self.now)) }
     {
         self.expected_at(alloc, grammar, false)
@@ -122,7 +123,7 @@ impl MatcherState {
     ) -> Result<Option<Expected<'g>>, OutOfMemory>
         requires { IsStateBy grammar.now self.now }
         ensures expected { IfOk result (λ o. IfSome o (λ e. (es : List trees.Event) → Knows (matching_in grammar.now self.now) es
-            → MayReplace (reading_of grammar.now) self.now.progress (next_of e) es)) }
+            → MayReplace (reading_of grammar.now) (matching_in grammar.now self.now) (next_of e) es)) }
         ensures none { IfOk result (λ o. (o ≡ None) ↔ HasRunOut (matching_in grammar.now self.now)) }
     {
         self.expected_at(alloc, grammar, true)
@@ -137,7 +138,8 @@ impl MatcherState {
     ) -> Result<Option<Expected<'g>>, OutOfMemory>
         requires { IsStateBy grammar.now self.now }
         ensures expected { IfOk result (λ o. IfSome o (λ e. (es : List trees.Event) → Knows (matching_in grammar.now self.now) es
-            → HaveLeft (reading_of grammar.now) (λ left. IsExpected (grammar_of grammar.now) (alternatives_at in_place left) (next_of e)) self.now.progress es)) }
+            → HaveLeft (reading_of grammar.now) (trees_in (matching_in grammar.now self.now))
+            (λ left. IsExpected (grammar_of grammar.now) (alternatives_at in_place left) (next_of e)) self.now.progress es)) }
         ensures none { IfOk result (λ o. (o ≡ None) ↔ HasRunOut (matching_in grammar.now self.now)) }
     {
         let Some(left) = self.progress.innermost() else {
@@ -163,7 +165,7 @@ impl MatcherState {
     ) -> Result<Option<ExpectedTag<'g>>, OutOfMemory>
         requires { IsStateBy grammar.now self.now }
         ensures tag { IfOk result (λ o. IfSome o (λ tag. (es : List trees.Event) → Knows (matching_in grammar.now self.now) es
-            → MayHave (reading_of grammar.now) self.now.progress (name_of name.now) (tag_of tag) es)) }
+            → MayHave (reading_of grammar.now) (matching_in grammar.now self.now) (name_of name.now) (tag_of tag) es)) }
         ensures none { IfOk result (λ o. (o ≡ None) ↔ HasRunOut (matching_in grammar.now self.now)) }
     {
         let Some(left) = self.progress.innermost() else {
@@ -223,6 +225,7 @@ impl MatcherState {
         let left = left_here(left);
         learned.lost = true;
         let reason = start_reason(&context, &mut learned.table, &mut learned.known, &left, tag)?;
+        reduced_pattern_law(&learned.table);
         learned.lost = false;
         self.progress = progress;
         Ok(reason)
@@ -281,6 +284,7 @@ impl MatcherState {
             &mut learned.known,
             &begun,
         )?;
+        reduced_pattern_law(&learned.table);
         learned.lost = false;
         self.progress = progress;
         Ok(options)
@@ -293,7 +297,7 @@ impl MatcherState {
     pub fn end_reason(&self, alloc: Global, grammar: &SimpleGrammar) -> Result<Reason, OutOfMemory>
         requires { IsStateBy grammar.now self.now }
         ensures { IfOk result (λ reason. (es : List trees.Event) → Knows (matching_in grammar.now self.now) es
-            → HasEndReason (reading_of grammar.now) self.now.progress reason es) }
+            → HasEndReason (reading_of grammar.now) (matching_in grammar.now self.now) reason es) }
     {
         let Some(left) = self.progress.innermost() else {
             return Err(OutOfMemory);

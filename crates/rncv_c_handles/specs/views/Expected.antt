@@ -18,11 +18,11 @@ use Rattle.rncv_c_handles.specs.declared.handle.Held.TheVariants.{Schema, Docume
 
 -- as `Document::expected` promises, of what was fed
 abbrev pub MayFollowFed : fed.Judging → Next → Type 0
-MayFollowFed d next = (bytes : List ℕ) (fed : fed.HasBeenFed d bytes) → MayFollow (reading_of d.grammar) d.matching.progress next fed.events
+MayFollowFed d next = (bytes : List ℕ) (fed : fed.HasBeenFed d bytes) → MayFollow (reading_of d.grammar) d.matching next fed.events
 
 -- as `EventDocument::expected` promises, of the calls that were taken
 abbrev pub MayFollowCalls : told.Judging → Next → Type 0
-MayFollowCalls d next = (calls : List Event) (taken : told.HasTaken d calls) → MayFollow (reading_of d.grammar) d.matching.progress next taken.events
+MayFollowCalls d next = (calls : List Event) (taken : told.HasTaken d calls) → MayFollow (reading_of d.grammar) d.matching next taken.events
 
 -- this may follow in the document that is held; none is held otherwise
 abbrev pub MayFollowIn : Option Held → Next → Type 0
@@ -43,7 +43,7 @@ HoldsNoDocument held = (document_in held ≡ None) × (events_in held ≡ None)
 -- as `EventDocument::expected_tag` promises, of the calls that were taken
 pub record IsTagText (q : Name) (d : told.Judging) (text : List ℕ) : Type 0 where
   pub tag : Tag
-  pub may : (calls : List Event) (taken : told.HasTaken d calls) → MayHave (reading_of d.grammar) d.matching.progress q tag taken.events
+  pub may : (calls : List Event) (taken : told.HasTaken d calls) → MayHave (reading_of d.grammar) d.matching q tag taken.events
   pub text_is : text ≡ tag_text tag
 
 -- the status of a call for a tag that gives no text, though a document of events is begun

@@ -31,7 +31,7 @@ pub record TellsStartReason (q : Name) (xs : List Attribute) (told : ReasonNumbe
 pub record TellsEndReason (told : ReasonNumbers) (old new : Judging) : Type 0 where
   pub reason : Option Reason
   pub is : (calls : List Event) (taken : HasTaken old calls)
-      → IsWhyNoEnd (reading_of old.grammar) old.matching.progress new.matching.progress reason taken.events
+      → IsWhyNoEnd (reading_of old.grammar) old.matching.progress new.matching reason taken.events
   pub told_is : told ≡ reason_numbers reason
   pub mode : StaysInMode old.matching.progress new.matching.progress
 
@@ -79,5 +79,5 @@ pub record IsHeldBy (count : ℕ) (d : Judging) : Type 0 where
 -- promises
 pub record IsReplacementText (d : Judging) (text : List ℕ) : Type 0 where
   pub next : Next
-  pub replaces : (calls : List Event) (taken : HasTaken d calls) → MayReplace (reading_of d.grammar) d.matching.progress next taken.events
+  pub replaces : (calls : List Event) (taken : HasTaken d calls) → MayReplace (reading_of d.grammar) d.matching next taken.events
   pub text_is : text ≡ expectation_text next

@@ -1,5 +1,5 @@
 -- A matcher, as its callers see it.
-use Rattle.std.specs.Prelude.{◌≡◌, ℕ, List, ◌++◌}
+use Rattle.std.specs.Prelude.{◌≡◌, ℕ, List, ◌++◌, false}
 use Rattle.rng_model.specs.simple.Table.{Table}
 use Rattle.rng_model.specs.simple.Tree.{Simple}
 use Rattle.rng_model.specs.documents.PyxTrees.{Event}
@@ -8,7 +8,7 @@ use Rattle.rng_deriv_table.specs.views.Node.{Node}
 use Rattle.rng_deriv_table.specs.views.Trees.{trees}
 use Rattle.rng_deriv_events.specs.views.Basis.{Basis}
 use Rattle.rng_deriv_events.specs.views.Positions.{IsFailed, IsKnown, IsLost, IsProgressInside, StaysInMode}
-use Rattle.rng_deriv.specs.views.Serving.{Serves, nodes_of}
+use Rattle.rng_deriv.specs.views.Serving.{IsTableReduced, Serves, nodes_of}
 use Rattle.rng_deriv.specs.declared.matcher_state.MatcherState.{MatcherState}
 use Rattle.rng_deriv_events.specs.declared.progress.Progress.{Progress}
 
@@ -59,3 +59,4 @@ matching_in t s = record { grammar = t; patterns = nodes_of s.learned.value; pro
 pub record IsStateBy (t : Table) (s : MatcherState) : Type 0 where
   pub serves : Serves t s.learned.value
   pub inside : IsProgressInside (reading_of t) s.learned.value.keys (trees t (nodes_of s.learned.value)) s.progress
+  pub reduced : s.learned.value.lost ≡ false → IsTableReduced t s.learned.value.table

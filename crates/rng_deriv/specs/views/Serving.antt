@@ -1,13 +1,15 @@
 -- The patterns of a grammar in a table, for a matcher.
-use Rattle.std.specs.Prelude.{⊤, List, [], Bool, true, false}
+use Rattle.std.specs.Prelude.{⊤, ℕ, ◌<◌, List, [], length, Bool, true, false}
 use Rattle.rng_names.specs.plain.Keys.{Keys, KeysServe}
 use Rattle.rng_model.specs.simple.Table.{Table, grammar_of}
 use Rattle.rng_model.specs.restrictions.RestrictionFaults.{BreaksNone}
 use Rattle.rng_deriv_table.specs.views.Node.{Node}
+use Rattle.rng_deriv_table.specs.views.Trees.{tree_of}
 use Rattle.rng_deriv_table.specs.declared.pattern.PatternNumber.{PatternNumber}
 use Rattle.rng_deriv_ways.specs.views.KnownWays.{AreAllKnown}
 use Rattle.rng_deriv_ways.specs.plain.Starting.{IsReady, HasRestrictedBodies}
 use Rattle.rng_deriv_ways.specs.declared.known.Known.{Known}
+use Rattle.rng_reasons.specs.AllowedPatterns.{IsReduced}
 use Rattle.rng_deriv_events.specs.views.Basis.{Basis}
 use Rattle.rng_deriv.specs.declared.learned.Learned.{Learned}
 
@@ -39,3 +41,7 @@ nodes_of l = nodes_unless l.lost l.table
 -- this was learned about this grammar
 abbrev pub Serves : Table → Learned → Type 0
 Serves t l = IsServedBy t l.keys l.lost l.table l.numbers.items l.known
+
+-- notAllowed is the whole of a pattern of the table, or occurs nowhere in it
+abbrev pub IsTableReduced : Table → List Node → Type 0
+IsTableReduced t ns = (number : ℕ) → number < length ns → IsReduced (tree_of t ns number)

@@ -20,6 +20,6 @@ returns-clause-reason c = λ calls taken.
     let knows = c.in_ok-may_end.ensures.knows in
     record {
       tells = subst (λ b. TellsEnd (reading_of d.grammar) d.matching.progress b taken.events) c.if-branch.false (c.in_ok-may_end.ensures.tells calls taken);
-      why = subst (λ (g : Table). HasEndReason (reading_of g) e.matching.progress c.in_ok-reason.reason taken.events) knows.grammar
+      why = subst (λ (g : Table). HasEndReason (reading_of g) e.matching c.in_ok-reason.reason taken.events) knows.grammar
           (c.in_ok-reason.ensures taken.events (knows.knows taken.events taken.knows));
     }

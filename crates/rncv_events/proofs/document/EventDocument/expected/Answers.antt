@@ -18,9 +18,9 @@ returns c = λ calls taken.
     let next = next_of c.in-Some-2.expected in
     let grammar : d.grammar ≡ t = ap (λ (j : Judging). j.grammar) (sym c.self.view_is) in
     let matching : d.matching ≡ matching_in t s = ap (λ (j : Judging). j.matching) (sym c.self.view_is) ∙ ap (matching_of t) c.in-Some.is in
-    let Follows : Table → Expected → Type 0 = λ g e. (es : List Event) → Knows (matching_in g s) es → MayFollow (reading_of g) s.progress (next_of e) es in
+    let Follows : Table → Expected → Type 0 = λ g e. (es : List Event) → Knows (matching_in g s) es → MayFollow (reading_of g) (matching_in g s) (next_of e) es in
     let told : Follows t c.in-Some-2.expected = subst (λ (g : Table). Follows g c.in-Some-2.expected) c.deref.ensures
     (subst (λ o. IfSome o (Follows c.deref.result.now)) c.in-Some-2.is c.in_ok-expected.ensures.expected) in
     let known : Knows (matching_in t s) taken.events = subst (λ (m : Matching). Knows m taken.events) matching taken.knows in
-    subst (λ (g : Table). MayFollow (reading_of g) d.matching.progress next taken.events) (sym grammar)
-    (subst (λ (m : Matching). MayFollow (reading_of t) m.progress next taken.events) (sym matching) (told taken.events known))
+    subst (λ (g : Table). MayFollow (reading_of g) d.matching next taken.events) (sym grammar)
+    (subst (λ (m : Matching). MayFollow (reading_of t) m next taken.events) (sym matching) (told taken.events known))

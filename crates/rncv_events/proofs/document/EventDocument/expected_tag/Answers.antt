@@ -22,10 +22,10 @@ returns c = λ calls taken.
     let grammar : d.grammar ≡ t = ap (λ (j : Judging). j.grammar) (sym c.self.view_is) in
     let matching : d.matching ≡ matching_in t s = ap (λ (j : Judging). j.matching) (sym c.self.view_is) ∙ ap (matching_of t) c.in-Some.is in
     let Has : Table → ExpectedTag → Type 0 = λ g tag. (es : List Event) → Knows (matching_in g s) es
-    → MayHave (reading_of g) s.progress (name_of c.in_ok-name.name) (tag_of tag) es in
+    → MayHave (reading_of g) (matching_in g s) (name_of c.in_ok-name.name) (tag_of tag) es in
     let told : Has t c.in-Some-2.tag = subst (λ (g : Table). Has g c.in-Some-2.tag) c.deref.ensures
     (subst (λ o. IfSome o (Has c.deref.result.now)) c.in-Some-2.is c.in_ok-tag.ensures.tag) in
     let known : Knows (matching_in t s) taken.events = subst (λ (m : Matching). Knows m taken.events) matching taken.knows in
-    subst (λ (g : Table). MayHave (reading_of g) d.matching.progress (name_told c.args.name) tag taken.events) (sym grammar)
-    (subst (λ (m : Matching). MayHave (reading_of t) m.progress (name_told c.args.name) tag taken.events) (sym matching)
-    (subst (λ (q : names.Name). MayHave (reading_of t) s.progress q tag taken.events) c.in_ok-name.ensures (told taken.events known)))
+    subst (λ (g : Table). MayHave (reading_of g) d.matching (name_told c.args.name) tag taken.events) (sym grammar)
+    (subst (λ (m : Matching). MayHave (reading_of t) m (name_told c.args.name) tag taken.events) (sym matching)
+    (subst (λ (q : names.Name). MayHave (reading_of t) (matching_in t s) q tag taken.events) c.in_ok-name.ensures (told taken.events known)))

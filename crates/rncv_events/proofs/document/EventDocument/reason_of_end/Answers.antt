@@ -16,8 +16,8 @@ returns c = λ es known.
     let reason = c.in_ok-reason.reason in
     let grammar : d.grammar ≡ t = ap (λ (j : Judging). j.grammar) (sym c.self.view_is) in
     let matching : d.matching ≡ matching_in t s = ap (λ (j : Judging). j.matching) (sym c.self.view_is) ∙ ap (matching_of t) c.in-Some.is in
-    let Why : Table → Type 0 = λ g. (es : List Event) → Knows (matching_in g s) es → HasEndReason (reading_of g) s.progress reason es in
+    let Why : Table → Type 0 = λ g. (es : List Event) → Knows (matching_in g s) es → HasEndReason (reading_of g) (matching_in g s) reason es in
     let told : Why t = subst Why c.deref.ensures c.in_ok-reason.ensures in
-    subst (λ (g : Table). HasEndReason (reading_of g) d.matching.progress reason es) (sym grammar)
-    (subst (λ (m : Matching). HasEndReason (reading_of t) m.progress reason es) (sym matching)
+    subst (λ (g : Table). HasEndReason (reading_of g) d.matching reason es) (sym grammar)
+    (subst (λ (m : Matching). HasEndReason (reading_of t) m reason es) (sym matching)
     (told es (subst (λ (m : Matching). Knows m es) matching known)))

@@ -34,7 +34,7 @@ returns-in_ok-reason-in-End-clause-reason c = λ es known.
     let keeps : KeepsFailed events.End false s.progress = subst (λ m. KeepsFailed events.End m s.progress) c.if-may_end.false
     (subst (λ e. KeepsFailed e c.in-Some.may_end s.progress) c.in-End.is
     (subst (λ o. IfSome o (λ e. KeepsFailed e.0 e.1 s.progress)) c.in-Some.is c.in_ok-event.ensures.event)) in
-    end_told (reading_of t) (trees_in (matching_in t s)) s.progress keeps c.in_ok-reason-in-End.reason es (c.in_ok-reason-in-End.ensures es known)
+    end_told (reading_of t) (matching_in t s) keeps c.in_ok-reason-in-End.reason es (c.in_ok-reason-in-End.ensures es known)
 
 pub returns-then-may_end-clause-reason : goal.returns-then-may_end-clause-reason
 returns-then-may_end-clause-reason c = λ es known.
@@ -44,7 +44,7 @@ returns-then-may_end-clause-reason c = λ es known.
     let keeps : KeepsFailed events.End true s.progress = subst (λ m. KeepsFailed events.End m s.progress) c.if-may_end.true
     (subst (λ e. KeepsFailed e c.in-Some.may_end s.progress) c.in-End.is
     (subst (λ o. IfSome o (λ e. KeepsFailed e.0 e.1 s.progress)) c.in-Some.is c.in_ok-event.ensures.event)) in
-    nothing_told t s c.requires new events.End true (end_is (reading_of t) new) keeps es known
+    nothing_told t s c.requires events.End true (end_is (reading_of t) new) keeps es known
 
 pub returns-in-Text-clause-reason : goal.returns-in-Text-clause-reason
 returns-in-Text-clause-reason c = λ es known.
@@ -53,7 +53,7 @@ returns-in-Text-clause-reason c = λ es known.
     let new = trees_in (matching_in t s) in
     let keeps : KeepsFailed events.Text c.in-Some.may_end s.progress = subst (λ e. KeepsFailed e c.in-Some.may_end s.progress) c.in-Text.is
     (subst (λ o. IfSome o (λ e. KeepsFailed e.0 e.1 s.progress)) c.in-Some.is c.in_ok-event.ensures.event) in
-    nothing_told t s c.requires new events.Text c.in-Some.may_end (text_is (reading_of t) new c.in-Some.may_end) keeps es known
+    nothing_told t s c.requires events.Text c.in-Some.may_end (text_is (reading_of t) new c.in-Some.may_end) keeps es known
 
 pub returns-in_ok-reason-in-Start-clause-none : goal.returns-in_ok-reason-in-Start-clause-none
 returns-in_ok-reason-in-Start-clause-none c =

@@ -16,7 +16,7 @@ use Rattle.rng_reasons.specs.declared.reasons.LeftHere.{LeftHere}
 use Rattle.rng_deriv.specs.views.Alternatives.{left_here, unless_lost}
 use Rattle.rng_deriv.specs.declared.learned.Learned.{Learned}
 use Rattle.rng_deriv.proofs.FollowingEvents.{alternatives, alternatives_there, in_place_there, is_left, left_in}
-use Rattle.rng_deriv.proofs.GrownTables.{inside_grown, known_grown, served_state}
+use Rattle.rng_deriv.proofs.GrownTables.{inside_grown, known_grown, left_grown, served_state}
 use Rattle.rng_deriv.proofs.KeptStarts.{serves_longer}
 use Rattle.rng_deriv.proofs.matcher_state.MatcherState.start_reason.Goals as goal
 
@@ -57,6 +57,7 @@ returns-clause-state c =
           c.in_ok-reason.ensures.known;
       inside = subst (IsProgressInside (reading_of t) n.keys (trees t new)) (sym c.replace-progress.ensures.value)
           (inside_grown t s c.requires n same there new longer);
+      reduced = λ kept. c.reduced_pattern_law.ensures t;
     }
 
 pub returns-clause-knows : goal.returns-clause-knows
@@ -68,7 +69,7 @@ returns-clause-knows c = λ es known.
     c.in_ok-reason.ensures.longer es known)
 
 pub returns-clause-reason : goal.returns-clause-reason
-returns-clause-reason c =
+returns-clause-reason c = λ es known.
     let t = c.args.grammar.now in
     let s = c.args.self.now in
     let g = reading_of t in
@@ -84,8 +85,10 @@ returns-clause-reason c =
     let new = trees t c.start_reason.new.table in
     let reason = c.in_ok-reason.reason in
     let In : List Node → List PatternNumber → List (Simple _) = λ ps ns. map (λ (p : PatternNumber). tree_of t ps p.0) ns in
-    is_left t s c.requires left is (λ left. IsStartReason g new q xs left reason)
+    left_grown t s c.requires n same c.if-learned.false c.start_reason.new.table c.in_ok-reason.ensures.longer (λ left. IsStartReason g new q xs left reason) es
+    (is_left t s c.requires left is (λ left. IsStartReason g new q xs left reason)
     (subst (λ (b : Bool). IsStartReason g new q xs (alternatives (In s.learned.value.table (unless_lost b left.now))
     (In s.learned.value.table (unless_lost b left.in_place)) left.has_text) reason) (sym kept)
     (subst (λ (n : Learned). IsStartReason g new q xs (alternatives (In n.table left.now) (In n.table left.in_place) left.has_text) reason) same
     (subst (λ (h : LeftHere). IsStartReason g new q xs (alternatives_in t n.table h) reason) c.left_here-left.ensures c.in_ok-reason.ensures.reason)))
+    es known)

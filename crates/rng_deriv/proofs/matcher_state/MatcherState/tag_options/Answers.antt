@@ -9,12 +9,13 @@ use Rattle.rng_deriv_ways.specs.plain.Starting.{HasRestrictedBodies}
 use Rattle.rng_deriv_events.specs.views.Innermost.{innermost_of}
 use Rattle.rng_deriv_events.specs.views.Positions.{IsKnown, IsProgressInside}
 use Rattle.rng_deriv_events.specs.declared.progress.Progress.{Progress}
+use Rattle.rng_reasons.specs.Reasons.{Alternatives}
 use Rattle.rng_reasons.specs.TagOptions.{IsTagOptionsOf}
 use Rattle.rng_reasons.specs.views.Options.{options_of}
 use Rattle.rng_deriv.specs.views.Alternatives.{unless_lost}
 use Rattle.rng_deriv.specs.declared.learned.Learned.{Learned}
 use Rattle.rng_deriv.proofs.FollowingEvents.{alternatives_there, is_left_at, left_in}
-use Rattle.rng_deriv.proofs.GrownTables.{inside_grown, known_grown, served_state}
+use Rattle.rng_deriv.proofs.GrownTables.{inside_grown, known_grown, left_grown, served_state}
 use Rattle.rng_deriv.proofs.KeptStarts.{serves_longer}
 use Rattle.rng_deriv.proofs.matcher_state.MatcherState.tag_options.Goals as goal
 
@@ -51,6 +52,7 @@ returns-clause-state c =
           c.in_ok-options.ensures.known;
       inside = subst (IsProgressInside (reading_of t) n.keys (trees t new)) (sym c.replace-progress.ensures.value)
           (inside_grown t s c.requires n same there new longer);
+      reduced = λ kept. c.reduced_pattern_law.ensures t;
     }
 
 pub returns-clause-knows : goal.returns-clause-knows
@@ -62,7 +64,7 @@ returns-clause-knows c = λ es known.
     c.in_ok-options.ensures.longer es known)
 
 pub returns-clause-options : goal.returns-clause-options
-returns-clause-options c =
+returns-clause-options c = λ es known.
     let t = c.args.grammar.now in
     let s = c.args.self.now in
     let g = reading_of t in
@@ -76,6 +78,9 @@ returns-clause-options c =
     let kept : s.learned.value.lost ≡ false = sym (ap (λ (n : Learned). n.lost) same) ∙ c.if-learned.false in
     let options = option_map options_of c.in_ok-options.options in
     let Options : List (Simple _) → Type 0 = λ now. IsTagOptionsOf g (trees t c.tag_options.new.table) now q xs named options in
-    is_left_at t s c.requires left is false Options
+    left_grown t s c.requires c.deref_mut-learned.result.now same c.if-learned.false c.tag_options.new.table c.in_ok-options.ensures.longer
+    (λ (a : Alternatives). Options a.behind) es
+    (is_left_at t s c.requires left is false Options
     (subst (λ (b : Bool). Options (map (λ (p : PatternNumber). tree_of t s.learned.value.table p.0) (unless_lost b left.now))) (sym kept)
     (subst (λ (n : Learned). Options (map (λ (p : PatternNumber). tree_of t n.table p.0) left.now)) same c.in_ok-options.ensures.options))
+    es known)
