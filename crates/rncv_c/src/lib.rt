@@ -18,7 +18,7 @@ ghost use Rattle.rncv_c_values.specs.views.Datatypes.{set_of};
 ghost use Rattle.rncv_c_handles.specs.views.Events as of_events;
 ghost use Rattle.rncv_c_handles.specs.views.Expected.{HoldsNoDocument, IsExpectationIn, IsTagText};
 ghost use Rattle.rncv_c_handles.specs.views.Options.{HasNoOptions, IsOfTexts, IsOptionsText, StillHasTaken, beginning_in};
-ghost use Rattle.rncv_c_handles.specs.views.Reasons.{IsHeldBy, IsReplacementText, TellsEndReason, TellsFedReason, TellsReason, TellsStartReason};
+ghost use Rattle.rncv_c_handles.specs.views.Reasons.{IsHeldBy, IsReplacementText, StillHasBeenFed, TellsEndReason, TellsFedReason, TellsReason, TellsStartReason};
 ghost use Rattle.rncv_c_handles.specs.views.Reasons.{WantsFedReasons, WantsReasons};
 ghost use Rattle.rncv_c_values.specs.views.Files.{AreNamed, files_of, main_of};
 ghost use Rattle.rncv_c_handles.specs.views.Held.{document_in, events_in, grammar_in, schema_in};
@@ -470,6 +470,7 @@ pub extern "C" fn rncv_events_start_reason(
     ensures others { result ≢ pos 0 → result ≢ pos 2 → result ≢ pos 4 → result ≡ pos 3 }
     ensures untold { result ≢ pos 0 → reason.new ≡ reason.old }
     ensures kept { grammar_in schema.new.held ≡ grammar_in schema.old.held }
+    ensures taken { IfSome (events_in schema.old.held) (λ old. IsSomeAnd (events_in schema.new.held) (StillHasTaken old)) }
     ensures failed { result ≢ pos 0 → result ≢ pos 3 → schema.new.held ≡ schema.old.held }
 {
     match reasons::start_reason(alloc, schema, NameBytes { uri, local }, attributes) {
@@ -497,6 +498,7 @@ pub extern "C" fn rncv_events_end_reason(
     ensures others { result ≢ pos 0 → result ≢ pos 4 → result ≡ pos 3 }
     ensures untold { result ≢ pos 0 → reason.new ≡ reason.old }
     ensures kept { grammar_in schema.new.held ≡ grammar_in schema.old.held }
+    ensures taken { IfSome (events_in schema.old.held) (λ old. IsSomeAnd (events_in schema.new.held) (StillHasTaken old)) }
     ensures failed { result ≡ pos 4 → schema.new.held ≡ schema.old.held }
 {
     match reasons::end_reason(alloc, schema) {
@@ -543,6 +545,8 @@ pub extern "C" fn rncv_fault_reason(
     ensures others { result ≢ pos 0 → result ≢ pos 4 → result ≡ pos 3 }
     ensures untold { result ≢ pos 0 → reason.new ≡ reason.old }
     ensures kept { grammar_in schema.new.held ≡ grammar_in schema.old.held }
+    ensures taken { IfSome (events_in schema.old.held) (λ old. IsSomeAnd (events_in schema.new.held) (StillHasTaken old)) }
+    ensures fed { IfSome (document_in schema.old.held) (λ old. IsSomeAnd (document_in schema.new.held) (StillHasBeenFed old)) }
     ensures failed { result ≡ pos 4 → schema.new.held ≡ schema.old.held }
 {
     match reasons::fault_reason(alloc, schema) {

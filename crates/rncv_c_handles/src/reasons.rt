@@ -5,7 +5,8 @@ ghost use Rattle.rncv_c_values.specs.views.Attributes.{AreTexts, attribute_of, n
 ghost use Rattle.rncv_c_values.specs.views.Texts.{IsTooLong, IsWritten};
 ghost use Rattle.rncv_c_handles.specs.views.Expected.{HoldsNoDocument};
 ghost use Rattle.rncv_c_handles.specs.views.Held.{document_in, events_in, grammar_in};
-ghost use Rattle.rncv_c_handles.specs.views.Reasons.{IsHeldBy, IsReplacementText, TellsEndReason, TellsFedReason, TellsReason, TellsStartReason};
+ghost use Rattle.rncv_c_handles.specs.views.Options.{StillHasTaken};
+ghost use Rattle.rncv_c_handles.specs.views.Reasons.{IsHeldBy, IsReplacementText, StillHasBeenFed, TellsEndReason, TellsFedReason, TellsReason, TellsStartReason};
 ghost use Rattle.rncv_c_handles.specs.views.Reasons.{WantsFedReasons, WantsReasons};
 
 use crate::handle::{Handle, Held};
@@ -38,6 +39,7 @@ pub fn start_reason(
     ensures malformed { IfErr result (λ status. status ≡ Status.Malformed → ¬ (AreTexts (name_of name.entry) attributes.now)) }
     ensures others { IfErr result (λ status. status ≢ Status.Misuse → status ≢ Status.Malformed → status ≡ Status.Memory) }
     ensures kept { grammar_in schema.new.held ≡ grammar_in schema.old.held }
+    ensures taken { IfSome (events_in schema.old.held) (λ old. IsSomeAnd (events_in schema.new.held) (StillHasTaken old)) }
     ensures failed { IfErr result (λ status. status ≢ Status.Memory → schema.new.held ≡ schema.old.held) }
 {
     let Some(mut held) = schema.take(alloc) else {
@@ -63,6 +65,7 @@ fn start_numbers(
     ensures malformed { IfErr result (λ status. status ≡ Status.Malformed → ¬ (AreTexts (name_of name.entry) attributes.now)) }
     ensures others { IfErr result (λ status. (status ≢ Status.Misuse) × (status ≢ Status.Malformed → status ≡ Status.Memory)) }
     ensures grammar { document.new.grammar ≡ document.old.grammar }
+    ensures taken { StillHasTaken document.old document.new }
     ensures failed { IfErr result (λ status. status ≢ Status.Memory → document.new ≡ document.old) }
 {
     let Ok(name) = text_name(name) else {
@@ -89,6 +92,7 @@ pub fn end_reason(alloc: Global, schema: &mut Handle) -> Result<ReasonNumbers, S
     ensures begun { OnOk result (events_in schema.old.held ≢ None) }
     ensures others { IfErr result (λ status. status ≢ Status.Misuse → status ≡ Status.Memory) }
     ensures kept { grammar_in schema.new.held ≡ grammar_in schema.old.held }
+    ensures taken { IfSome (events_in schema.old.held) (λ old. IsSomeAnd (events_in schema.new.held) (StillHasTaken old)) }
     ensures failed { IfErr result (λ status. status ≢ Status.Memory → schema.new.held ≡ schema.old.held) }
 {
     let Some(mut held) = schema.take(alloc) else {
@@ -107,6 +111,7 @@ fn end_numbers(document: &mut EventDocument) -> Result<ReasonNumbers, Status>
     ensures told { IfOk result (λ told. TellsEndReason told document.old document.new) }
     ensures others { IfErr result (λ status. status ≡ Status.Memory) }
     ensures grammar { document.new.grammar ≡ document.old.grammar }
+    ensures taken { StillHasTaken document.old document.new }
 {
     match document.end_reason() {
         Ok(reason) => Ok(reason_to_tell(reason)),
@@ -167,6 +172,8 @@ pub fn fault_reason(alloc: Global, schema: &mut Handle) -> Result<ReasonNumbers,
     ensures misuse { IsErrOf result Status.Misuse ↔ HoldsNoDocument schema.old.held }
     ensures others { IfErr result (λ status. status ≢ Status.Misuse → status ≡ Status.Memory) }
     ensures kept { grammar_in schema.new.held ≡ grammar_in schema.old.held }
+    ensures taken { IfSome (events_in schema.old.held) (λ old. IsSomeAnd (events_in schema.new.held) (StillHasTaken old)) }
+    ensures fed { IfSome (document_in schema.old.held) (λ old. IsSomeAnd (document_in schema.new.held) (StillHasBeenFed old)) }
     ensures failed { IfErr result (λ status. status ≢ Status.Memory → schema.new.held ≡ schema.old.held) }
 {
     let Some(mut held) = schema.take(alloc) else {
@@ -186,6 +193,7 @@ fn fault_numbers(document: &mut EventDocument) -> Result<ReasonNumbers, Status>
     ensures told { IfOk result (λ told. TellsReason told document.old document.new) }
     ensures others { IfErr result (λ status. status ≡ Status.Memory) }
     ensures grammar { document.new.grammar ≡ document.old.grammar }
+    ensures taken { StillHasTaken document.old document.new }
 {
     match document.reason() {
         Ok(reason) => Ok(reason_to_tell(reason)),
@@ -198,6 +206,7 @@ fn fed_fault_numbers(document: &mut Document) -> Result<ReasonNumbers, Status>
     ensures told { IfOk result (λ told. TellsFedReason told document.old document.new) }
     ensures others { IfErr result (λ status. status ≡ Status.Memory) }
     ensures grammar { document.new.grammar ≡ document.old.grammar }
+    ensures fed { StillHasBeenFed document.old document.new }
 {
     match document.reason() {
         Ok(reason) => Ok(reason_to_tell(reason)),

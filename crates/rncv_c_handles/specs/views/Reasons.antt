@@ -44,15 +44,18 @@ pub record TellsReason (told : ReasonNumbers) (old new : Judging) : Type 0 where
   pub told_is : told ≡ reason_numbers reason
   pub mode : StaysInMode old.matching.progress new.matching.progress
 
--- the same of `Document::reason`, and what was fed stays
+-- the same of `Document::reason`
 pub record TellsFedReason (told : ReasonNumbers) (old new : fed.Judging) : Type 0 where
   pub reason : Option Reason
   pub is : (bytes : List ℕ) (fed : fed.HasBeenFed old bytes)
       → IsReason (reading_of old.grammar) old.matching.progress (trees_in new.matching) reason fed.events
   pub none : TellsNone old.matching.progress reason
   pub told_is : told ≡ reason_numbers reason
-  pub stays : (bytes : List ℕ) → fed.HasBeenFed old bytes → fed.HasBeenFed new bytes
   pub mode : StaysInMode old.matching.progress new.matching.progress
+
+-- the bytes that were fed still are
+abbrev pub StillHasBeenFed : fed.Judging → fed.Judging → Type 0
+StillHasBeenFed old new = (bytes : List ℕ) → fed.HasBeenFed old bytes → fed.HasBeenFed new bytes
 
 -- what `EventDocument::want_reasons` promises: the calls that were taken still are, and a start is kept from now on
 pub record WantsReasons (old new : Judging) : Type 0 where
