@@ -1,11 +1,11 @@
 // Compares what `xsd_patterns` returns for each row of `patterns.txt`.
 //
 // A row is an expression, what becomes of white space, and a text. It is printed whether the expression matches the text once
-// its white space is treated, or that the first text is no expression that is taken.
+// its white space is treated, or that the first text is no expression, or one that is too large.
 use case_rows::{Row, compare_rows};
 use std::io;
 use std::rt::Files;
-use xsd_patterns::{Pattern, WhiteSpace};
+use xsd_patterns::{Pattern, PatternFault, WhiteSpace};
 
 /// Compares the answers to the rows of `patterns.txt`.
 pub fn compare(rt: &(impl Files + Print + AllocGlobal)) -> io::Result<()> {
@@ -15,12 +15,13 @@ pub fn compare(rt: &(impl Files + Print + AllocGlobal)) -> io::Result<()> {
 /// Prints the line of a row.
 fn print_row(rt: &(impl Print + AllocGlobal), row: &Row) -> io::Result<()> {
     match Pattern::compile(rt.alloc(), row.text(0)?) {
-        Ok(Some(pattern)) => {
+        Ok(pattern) => {
             let holds = pattern.matches(white_space(row.text(1)?), row.text(2)?);
             println!(rt; "{holds}")
         }
-        Ok(None) => println!(rt; "none"),
-        Err(_) => println!(rt; "out of memory"),
+        Err(PatternFault::NoExpression) => println!(rt; "none"),
+        Err(PatternFault::TooLarge) => println!(rt; "too large"),
+        Err(PatternFault::Memory) => println!(rt; "out of memory"),
     }
 }
 

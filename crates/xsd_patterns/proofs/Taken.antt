@@ -12,14 +12,20 @@ use Rattle.xsd_regex.proofs.Decided.{regexes_are_decided, matches_are_decided}
 use Rattle.xsd_patterns.specs.Facet.{is_matched, is_match_of}
 
 -- a text that is no expression
-pub none_taken : (s : List ℕ) → IsNoRegex (chars s) → pattern_of s ≡ None
-none_taken s is_none = by (regex_of (chars s)) refl where
-  by : (o : Option Regex) → regex_of (chars s) ≡ o → option_and_then if_small o ≡ None
+pub no_expression : (s : List ℕ) → IsNoRegex (chars s) → regex_of (chars s) ≡ None
+no_expression s is_none = by (regex_of (chars s)) refl where
+  by : (o : Option Regex) → regex_of (chars s) ≡ o → o ≡ None
   by None e = refl
   by (Some r) e = absurd (is_none r ((regexes_are_decided (chars s) r).0 e))
 
+pub none_taken : (s : List ℕ) → regex_of (chars s) ≡ None → pattern_of s ≡ None
+none_taken s is_none = ap (option_and_then if_small) is_none
+
 large : (r : Regex) → most_size < size r → if_small r ≡ None
 large r more = let fails : nat_le (size r) most_size ≡ false = search (tests, arith) in rw fails refl
+
+pub large_taken : (s : List ℕ) (r : Regex) → regex_of (chars s) ≡ Some r → most_size < size r → pattern_of s ≡ None
+large_taken s r is more = ap (option_and_then if_small) is ∙ large r more
 
 small : (r : Regex) → size r ≤ most_size → if_small r ≡ Some r
 small r less = let passes : nat_le (size r) most_size ≡ true = search (tests, arith) in rw passes refl
@@ -30,8 +36,8 @@ module _ (s : List ℕ) (r : Regex) (is : IsRegex (chars s) r) {X : Type 0} (Are
   read : pattern_of s ≡ if_small r
   read = ap (option_and_then if_small) ((regexes_are_decided (chars s) r).1 is)
 
-  pub too_large : o ≡ None → pattern_of s ≡ None
-  too_large e = read ∙ large r (by o e made) where
+  pub too_large : o ≡ None → (q : Regex) × (regex_of (chars s) ≡ Some q) × (most_size < size q)
+  too_large e = (r, (regexes_are_decided (chars s) r).1 is, by o e made) where
     by : (p : Option X) → p ≡ None → MatchOption p (most_size < size r) (λ x. (size r ≤ most_size) × Are x) → most_size < size r
     by None e m = m
     by (Some x) e m = absurd (cc)

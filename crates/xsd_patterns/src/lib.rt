@@ -4,10 +4,12 @@
 //! `rng_model/specs/regexes` says what expressions are, and what they match.
 #![tactic(auto)]
 
+mod fault;
 mod parameters;
 mod pattern;
 mod patterns;
 
+pub use fault::PatternFault;
 pub use parameters::{have_no_pattern, other_parameters};
 pub use pattern::Pattern;
 pub use patterns::Patterns;

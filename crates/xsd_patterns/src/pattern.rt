@@ -1,9 +1,11 @@
 // One expression, ready to be matched.
-ghost use Rattle.std.specs.Prelude.{◌≡◌, IfOk, MatchOption, None};
+ghost use Rattle.std.specs.Prelude.{◌≡◌, IfErr, IfOk, MatchOption, None};
 ghost use Rattle.rng_model.specs.regexes.Patterns.{pattern_of};
 ghost use Rattle.xsd_automaton.specs.views.WhiteSpace.{treated};
 ghost use Rattle.xsd_patterns.specs.Facet.{IsTaken, is_matched};
+ghost use Rattle.xsd_patterns.specs.views.Faults.{IsPatternFault};
 
+use crate::fault::PatternFault;
 use rng_model::OutOfMemory;
 use std::alloc::Global;
 use std::marker::Model;
@@ -31,30 +33,43 @@ impl Model for Pattern {
 }
 
 impl Pattern {
-    /// Makes an expression ready to be matched. Returns `None` if the text is no expression, or one that is too large: if its
-    /// size with its counts written out is above 4,096.
+    /// Makes an expression ready to be matched, if the text is one, and its size with its counts written out is at most 4,096.
     ///
     /// XML Schema Part 2, Second Edition, appendix F. Linear in the length of the text and in that size, with a bound on what is
     /// spent on a table for texts of ASCII.
     ///
     /// # Errors
     ///
-    /// Returns `OutOfMemory` if memory is out, and in no other case.
-    pub fn compile(alloc: Global, text: &str) -> Result<Option<Pattern>, OutOfMemory>
-        ensures { IfOk result (λ o. MatchOption o (pattern_of text.now ≡ None) (λ p. (p ≡ text.now) × IsTaken p)) }
+    /// Returns `NoExpression` if the text is none, `TooLarge` if it is one of a greater size, and `Memory` if memory is out, and
+    /// in no other case.
+    pub fn compile(alloc: Global, text: &str) -> Result<Pattern, PatternFault>
+        ensures taken { IfOk result (λ p. (p ≡ text.now) × IsTaken p) }
+        ensures fault { IfErr result (IsPatternFault text.now) }
     {
         let Some(expression) = read(alloc, text)? else {
-            return Ok(None);
+            return Err(PatternFault::NoExpression);
         };
         let Some(positions) = positions(alloc, expression)? else {
-            return Ok(None);
+            return Err(PatternFault::TooLarge);
         };
         let automaton = Automaton::new(alloc, positions)?;
         let expression = String::from_str(alloc, text)?;
-        Ok(Some(Pattern {
+        Ok(Pattern {
             expression,
             automaton,
-        }))
+        })
+    }
+
+    // the same, or `None` if the text is no expression, or one that is too large
+    pub(crate) fn find(alloc: Global, text: &str) -> Result<Option<Pattern>, OutOfMemory>
+        ensures { IfOk result (λ o. MatchOption o (pattern_of text.now ≡ None) (λ p. (p ≡ text.now) × IsTaken p)) }
+    {
+        match Pattern::compile(alloc, text) {
+            Ok(pattern) => Ok(Some(pattern)),
+            Err(PatternFault::NoExpression) => Ok(None),
+            Err(PatternFault::TooLarge) => Ok(None),
+            Err(PatternFault::Memory) => Err(OutOfMemory),
+        }
     }
 
     /// Returns whether the expression matches the text as a whole once its white space is treated.

@@ -40,7 +40,7 @@ impl Patterns {
         let mut expressions = Vec::new(alloc);
         for param in params {
             if is_pattern(param) {
-                let Some(pattern) = Pattern::compile(alloc, param.1.as_str())? else {
+                let Some(pattern) = Pattern::find(alloc, param.1.as_str())? else {
                     return Ok(None);
                 };
                 expressions.push(pattern)?;
