@@ -56,7 +56,8 @@ fn plain_compares_texts(datatype: &PlainType) -> bool
         PlainType::List(_) => true,
         PlainType::Boolean(_) | PlainType::Octets(_) => false,
         PlainType::Integer(_) | PlainType::Decimal(_) => false,
-        PlainType::Float(_) | PlainType::Duration(_) | PlainType::Moment(_) => false,
+        PlainType::Float(_) | PlainType::Duration(_) => false,
+        PlainType::Time(_) | PlainType::Moment(_) => false,
     }
 }
 

@@ -2,7 +2,6 @@
 ghost use Rattle.std.specs.Prelude.{◌≡◌};
 ghost use Rattle.rng_model.specs.xsd.primitives.Values.{duration};
 ghost use Rattle.rng_model.specs.xsd.primitives.Durations.{durations, is_less};
-ghost use Rattle.xsd_values.proofs.SameValues.{one_duration};
 
 use crate::limited::{OrderedValue, ValueType};
 use rng_model::OutOfMemory;
@@ -48,8 +47,6 @@ impl OrderedValue for DurationBound {
     fn is_same(&self, other: &DurationBound) -> bool {
         self.duration.equal(&other.duration)
     }
-
-    ghost one = { one_duration };
 }
 
 /// The type `duration`.

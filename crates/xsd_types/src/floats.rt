@@ -4,7 +4,6 @@ ghost use Rattle.std.specs.Float.{binary64};
 ghost use Rattle.rng_model.specs.xsd.primitives.Floats.{floats};
 ghost use Rattle.rng_model.specs.xsd.primitives.Values.{float};
 ghost use Rattle.xsd_floats.specs.views.Values.{format_of};
-ghost use Rattle.xsd_values.proofs.SameValues.{one_float};
 
 use crate::limited::{OrderedValue, ValueType};
 use rng_model::OutOfMemory;
@@ -50,8 +49,6 @@ impl OrderedValue for FloatBound {
     fn is_same(&self, other: &FloatBound) -> bool {
         self.number.equal(other.number)
     }
-
-    ghost one = { one_float };
 }
 
 /// `float` or `double`.

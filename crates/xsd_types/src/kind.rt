@@ -4,7 +4,7 @@ ghost use Rattle.std.specs.Option.{option_map};
 ghost use Rattle.rng_model.specs.datatypes.Facets.{named};
 ghost use Rattle.rng_model.specs.xsd.Datatypes.{depends_on_context, from_to, from, up_to, unbounded};
 ghost use Rattle.rng_model.specs.xsd.Datatypes.{text_types, number_types, primitive_types, complete_types};
-ghost use Rattle.xsd_types.specs.views.Kinds.{maker_of, white_space_of};
+ghost use Rattle.xsd_types.specs.views.Kinds.{maker_of, white_space_of, least_length};
 
 use crate::lists::ItemKind;
 use crate::octets::OctetKind;
@@ -30,6 +30,7 @@ pub(crate) enum OrderedKind {
     Decimal,
     Float(FloatKind),
     Duration,
+    Time,
     Moment(MomentKind),
 }
 
@@ -55,6 +56,16 @@ pub(crate) fn white_space_of(kind: &Kind) -> WhiteSpace
         Kind::Text(TextKind::String) => WhiteSpace::Preserve,
         Kind::Text(TextKind::NormalizedString) => WhiteSpace::Replace,
         _ => WhiteSpace::Collapse,
+    }
+}
+
+// the least number that a parameter may write that bounds the length of a value of the type
+pub(crate) fn least_length(kind: TextKind) -> u8
+    ensures { result ≡ least_length kind }
+{
+    match kind {
+        TextKind::List(_) => 1,
+        _ => 0,
     }
 }
 
@@ -130,7 +141,7 @@ fn find_primitive(name: &str) -> Option<Kind>
         "double" => Some(Kind::Ordered(OrderedKind::Float(FloatKind::Double))),
         "duration" => Some(Kind::Ordered(OrderedKind::Duration)),
         "dateTime" => Some(Kind::Ordered(OrderedKind::Moment(MomentKind::DateTime))),
-        "time" => Some(Kind::Ordered(OrderedKind::Moment(MomentKind::Time))),
+        "time" => Some(Kind::Ordered(OrderedKind::Time)),
         "date" => Some(Kind::Ordered(OrderedKind::Moment(MomentKind::Date))),
         "gYearMonth" => Some(Kind::Ordered(OrderedKind::Moment(MomentKind::YearMonth))),
         "gYear" => Some(Kind::Ordered(OrderedKind::Moment(MomentKind::Year))),

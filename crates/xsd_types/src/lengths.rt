@@ -11,18 +11,18 @@ use crate::counts::{count, count_named};
 use crate::fault::TypeFault;
 use rng_types::{Lengths, is_once};
 
-// the bounds on lengths that the parameters write
+// the bounds on lengths that the parameters write, none of them less than the least of the type
 #[tactic(auto, unfolding(rng_model::specs::xsd::Facets::written_lengths))]
-pub(crate) fn lengths(params: &[(String, String)]) -> Result<Lengths, TypeFault>
-    ensures { IsMade lengths_of (written_lengths (map parameter_of params.now)) result }
+pub(crate) fn lengths(params: &[(String, String)], least: u8) -> Result<Lengths, TypeFault>
+    ensures { IsMade lengths_of (written_lengths least (map parameter_of params.now)) result }
 {
-    if !are_length_facets(params) {
+    if !are_length_facets(params, least) {
         return Err(TypeFault::BadParameter);
     }
-    let exact = count_named(params, "length", 0);
+    let exact = count_named(params, "length", least);
     let range = Lengths {
-        min: count_named(params, "minLength", 0),
-        max: count_named(params, "maxLength", 0),
+        min: count_named(params, "minLength", least),
+        max: count_named(params, "maxLength", least),
     };
     match joined(exact, range) {
         Some(lengths) => Ok(lengths),
@@ -71,27 +71,27 @@ fn is_range(range: &Lengths) -> bool
 }
 
 // whether each parameter bounds lengths, and none occurs twice
-fn are_length_facets(params: &[(String, String)]) -> bool
-    ensures { result ≡ are_facets length_facets (map parameter_of params.now) }
+fn are_length_facets(params: &[(String, String)], least: u8) -> bool
+    ensures { result ≡ are_facets (length_facets least) (map parameter_of params.now) }
 {
-    bound_lengths(params)
+    bound_lengths(params, least)
         && is_once(params, "length")
         && is_once(params, "minLength")
         && is_once(params, "maxLength")
 }
 
 // each parameter bounds lengths
-fn bound_lengths(params: &[(String, String)]) -> bool
-    ensures { result ≡ list_all (is_facet length_facets) (map parameter_of params.now) }
+fn bound_lengths(params: &[(String, String)], least: u8) -> bool
+    ensures { result ≡ list_all (is_facet (length_facets least)) (map parameter_of params.now) }
 {
-    params.iter().all(is_length_facet)
+    params.iter().all(|param| is_length_facet(param, least))
 }
 
-fn is_length_facet(param: &(String, String)) -> bool
-    ensures { result ≡ is_facet length_facets (parameter_of param.now) }
+fn is_length_facet(param: &(String, String), least: u8) -> bool
+    ensures { result ≡ is_facet (length_facets least) (parameter_of param.now) }
 {
     match param.0.as_str() {
-        "length" | "minLength" | "maxLength" => count(param.1.as_str(), 0).is_some(),
+        "length" | "minLength" | "maxLength" => count(param.1.as_str(), least).is_some(),
         _ => false,
     }
 }

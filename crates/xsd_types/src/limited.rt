@@ -1,5 +1,5 @@
 // Ordered types whose values hold no text, and that take the four bounds.
-ghost use Rattle.std.specs.Prelude.{◌≡◌, Bool, true, map};
+ghost use Rattle.std.specs.Prelude.{◌≡◌, map};
 ghost use Rattle.rng_model.specs.datatypes.DatatypeViews.{parameter_of};
 ghost use Rattle.rng_model.specs.datatypes.Datatypes.{is_allowed_by, are_equal_by};
 ghost use Rattle.rng_model.specs.datatypes.Texts.{Value, same_value};
@@ -20,9 +20,6 @@ pub trait OrderedValue: Bound {
     /// Returns whether the two are the same value. In constant time.
     fn is_same(&self, other: &Self) -> bool
         ensures { result ≡ same_value (value self.now) (value other.now) };
-
-    // two with the same value are the same
-    ghost one: { (a b : Self) → same_value (value a) (value b) ≡ true → a ≡ b };
 }
 
 /// An ordered type whose values hold no text.
@@ -67,7 +64,7 @@ impl<B: OrderedValue, T: ValueType<B>> Limited<B, T> {
         }
     }
 
-    // whether both texts write the same value, and it is within the bounds
+    // whether both texts write the same value, each within the bounds
     pub(crate) fn equal(&self, a: &str, b: &str) -> bool
         ensures { result ≡ are_equal_by (limited_by B.value B.at_most B.less T.value_of self.now) a.now b.now }
     {
@@ -75,7 +72,7 @@ impl<B: OrderedValue, T: ValueType<B>> Limited<B, T> {
             return false;
         };
         match self.datatype.value(b) {
-            Some(b) => a.is_same(&b) && self.limits.allow(&a),
+            Some(b) => a.is_same(&b) && self.limits.allow(&a) && self.limits.allow(&b),
             None => false,
         }
     }

@@ -3,7 +3,6 @@ ghost use Rattle.std.specs.Prelude.{◌≡◌, ◌||◌};
 ghost use Rattle.rng_model.specs.xsd.primitives.Values.{moment};
 ghost use Rattle.rng_model.specs.xsd.primitives.Zones.{is_before, same_moment};
 ghost use Rattle.xsd_moments.specs.Views.{ordered_of};
-ghost use Rattle.xsd_values.proofs.SameValues.{one_moment};
 
 use crate::limited::{OrderedValue, ValueType};
 use rng_model::OutOfMemory;
@@ -49,8 +48,6 @@ impl OrderedValue for MomentBound {
     fn is_same(&self, other: &MomentBound) -> bool {
         self.moment.equal(&other.moment)
     }
-
-    ghost one = { one_moment };
 }
 
 /// A type whose values are moments.

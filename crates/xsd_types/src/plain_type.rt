@@ -14,13 +14,14 @@ use crate::durations::{DurationBound, Durations};
 use crate::fault::TypeFault;
 use crate::floats::{FloatBound, Floats};
 use crate::integers::Integer;
-use crate::kind::{Kind, OrderedKind, TextKind};
+use crate::kind::{Kind, OrderedKind, TextKind, least_length};
 use crate::lengths::lengths;
 use crate::limited::Limited;
 use crate::lists::List;
 use crate::moments::{MomentBound, Moments};
 use crate::normalized::NormalizedString;
 use crate::octets::Octets;
+use crate::times::{TimeBound, Times};
 use crate::uris::Uri;
 use crate::words::{Word, WordKind};
 use rng_types::{Boolean, Datatype, Lengths, NcName, NmToken, XsdString, XsdToken};
@@ -43,6 +44,7 @@ pub enum PlainType {
     Decimal(BoundedDecimal),
     Float(Limited<FloatBound, Floats>),
     Duration(Limited<DurationBound, Durations>),
+    Time(Limited<TimeBound, Times>),
     Moment(Limited<MomentBound, Moments>),
 }
 
@@ -55,7 +57,7 @@ pub(crate) fn plain_type(
     ensures { IsMade plain_meaning (plain_maker kind (map parameter_of params.now)) result }
 {
     match kind {
-        Kind::Text(kind) => Ok(with_lengths(kind, lengths(params)?)),
+        Kind::Text(kind) => Ok(with_lengths(kind, lengths(params, least_length(kind))?)),
         Kind::Boolean if params.is_empty() => Ok(PlainType::Boolean(Boolean)),
         Kind::QName if params.is_empty() => Ok(PlainType::Word(qname())),
         Kind::Boolean | Kind::QName => Err(TypeFault::BadParameter),
@@ -74,6 +76,7 @@ fn ordered_type(
     match kind {
         OrderedKind::Decimal => Ok(PlainType::Decimal(BoundedDecimal::find(alloc, params)?)),
         OrderedKind::Duration => Ok(PlainType::Duration(Limited::find(alloc, Durations, params)?)),
+        OrderedKind::Time => Ok(PlainType::Time(Limited::find(alloc, Times, params)?)),
         OrderedKind::Float(kind) => Ok(PlainType::Float(Limited::find(
             alloc,
             Floats { kind },
@@ -145,6 +148,7 @@ impl Datatype for PlainType {
             PlainType::Decimal(datatype) => datatype.allows(text),
             PlainType::Float(datatype) => datatype.allows(text),
             PlainType::Duration(datatype) => datatype.allows(text),
+            PlainType::Time(datatype) => datatype.allows(text),
             PlainType::Moment(datatype) => datatype.allows(text),
         }
     }
@@ -165,6 +169,7 @@ impl Datatype for PlainType {
             PlainType::Decimal(datatype) => datatype.equal(a, b),
             PlainType::Float(datatype) => datatype.equal(a, b),
             PlainType::Duration(datatype) => datatype.equal(a, b),
+            PlainType::Time(datatype) => datatype.equal(a, b),
             PlainType::Moment(datatype) => datatype.equal(a, b),
         }
     }

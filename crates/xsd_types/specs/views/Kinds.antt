@@ -1,13 +1,17 @@
 -- What each kind of a type makes of its parameters.
+use Rattle.std.specs.Prelude.{ℕ}
+use Rattle.std.specs.Option.{option_map}
 use Rattle.rng_model.specs.datatypes.Facets.{Lengths}
 use Rattle.rng_model.specs.datatypes.Datatypes.{Meaning, Maker, without, xsd_string, xsd_token, xsd_ncname, xsd_nmtoken, xsd_boolean}
 use Rattle.rng_model.specs.xsd.Types.{xsd_normalized, xsd_word, xsd_list, xsd_qname}
 use Rattle.rng_model.specs.xsd.Uris.{xsd_any_uri}
-use Rattle.rng_model.specs.xsd.Datatypes.{with_lengths, with_number_facets}
+use Rattle.rng_model.specs.xsd.Facets.{written_lengths}
+use Rattle.rng_model.specs.xsd.Datatypes.{with_number_facets}
 use Rattle.rng_model.specs.xsd.primitives.Durations.{durations}
+use Rattle.rng_model.specs.xsd.primitives.Moments.{times}
 use Rattle.rng_model.specs.xsd.primitives.Floats.{floats}
 use Rattle.rng_model.specs.xsd.primitives.Types.{with_limits, with_decimal_facets}
-use Rattle.rng_model.specs.xsd.primitives.Values.{float, moment, duration}
+use Rattle.rng_model.specs.xsd.primitives.Values.{float, moment, time, duration}
 use Rattle.rng_model.specs.regexes.Patterns.{with_patterns}
 use Rattle.xsd_floats.specs.views.Values.{format_of}
 use Rattle.xsd_moments.specs.Views.{ordered_of}
@@ -35,15 +39,21 @@ text_meaning (texts.Word k) l = xsd_word (word_test k) l
 text_meaning (texts.List k) l = xsd_list (item_test k) l
 text_meaning (texts.Octets k) l = octets_by k l
 
+-- a list has one item at least
+abbrev pub least_length : TextKind → ℕ
+least_length (texts.List k) = 1
+least_length _ = 0
+
 abbrev pub ordered_maker : OrderedKind → Maker
 ordered_maker ordered.Decimal = with_decimal_facets
 ordered_maker (ordered.Float k) = with_limits float (floats (format_of k))
 ordered_maker ordered.Duration = with_limits duration durations
+ordered_maker ordered.Time = with_limits time times
 ordered_maker (ordered.Moment k) = with_limits moment (ordered_of k)
 
 -- what the type makes of the parameters that are no patterns
 abbrev pub plain_maker : Kind → Maker
-plain_maker (kinds.Text k) = with_lengths (text_meaning k)
+plain_maker (kinds.Text k) = λ ps. option_map (text_meaning k) (written_lengths (least_length k) ps)
 plain_maker kinds.Boolean = without xsd_boolean
 plain_maker kinds.QName = without xsd_qname
 plain_maker (kinds.Integer r) = with_number_facets (written_range r)

@@ -10,7 +10,7 @@ use Rattle.rng_model.specs.xsd.Uris.{xsd_any_uri}
 use Rattle.rng_model.specs.xsd.Types.{xsd_normalized, xsd_word, xsd_list}
 use Rattle.xsd_types.specs.views.Numbers.{number_meaning}
 use Rattle.xsd_types.specs.views.Octets.{octets_by}
-use Rattle.xsd_types.specs.views.Ordered.{decimal_by, float_by, duration_by, moment_by}
+use Rattle.xsd_types.specs.views.Ordered.{decimal_by, float_by, duration_by, time_by, moment_by}
 use Rattle.xsd_types.specs.declared.words.WordKind.{WordKind}
 use Rattle.xsd_types.specs.declared.words.WordKind.TheVariants as words
 use Rattle.xsd_types.specs.declared.lists.ItemKind.{ItemKind}
@@ -49,6 +49,7 @@ plain_meaning (types.Integer d) = number_meaning d
 plain_meaning (types.Decimal d) = decimal_by d
 plain_meaning (types.Float d) = float_by d
 plain_meaning (types.Duration d) = duration_by d
+plain_meaning (types.Time d) = time_by d
 plain_meaning (types.Moment d) = moment_by d
 
 abbrev pub meaning_by : XsdType → Meaning

@@ -8,6 +8,7 @@ use Rattle.xsd_types.proofs.lengths.bound_lengths.Goals as goal
 
 pub returns : goal.returns
 returns c =
-    all_from_yields_List (λ p. is_facet length_facets (parameter_of p)) _ _ c.all.result c.all.ensures.ran (YieldsList-from_slice c.args.params.now cc)
+    let facets = length_facets c.args.least in
+    all_from_yields_List (λ p. is_facet facets (parameter_of p)) _ _ c.all.result c.all.ensures.ran (YieldsList-from_slice c.args.params.now cc)
     (λ x b q k. search (rules, tests))
-    ∙ sym (list_all-map (is_facet length_facets) parameter_of c.args.params.now)
+    ∙ sym (list_all-map (is_facet facets) parameter_of c.args.params.now)
