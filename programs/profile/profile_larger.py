@@ -55,7 +55,8 @@ def takes(name, parameter):
 def count_of(param, name):
     """The number that a length, or a number of digits, writes; None if it may not have it."""
     number = integer(param.value)
-    least, greatest = 1 if param.name == "totalDigits" else 0, 0 if param.name == "fractionDigits" and name != "decimal" else MOST_COUNTED
+    least = 1 if param.name == "totalDigits" or param.name in LENGTHS and name in LISTS else 0
+    greatest = 0 if param.name == "fractionDigits" and name != "decimal" else MOST_COUNTED
     return number if number is not None and is_within(number, (least, greatest)) else None
 
 

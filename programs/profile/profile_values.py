@@ -17,8 +17,11 @@ PARTS = {"Y": "(?P<year>-?(?:(?!0000)[0-9]{4}|[1-9][0-9]{4,9}))", "M": "(?P<mont
 ZONE = "(?P<zone>Z|[+-](?:(?:0[0-9]|1[0-3]):[0-5][0-9]|14:00))?"
 FORMS = {"dateTime": "Y-M-DTC", "time": "C", "date": "Y-M-D", "gYearMonth": "Y-M", "gYear": "Y", "gMonthDay": "--M-D", "gDay": "---D", "gMonth": "--M"}
 MOMENTS = {name: re.compile("".join(PARTS.get(part, part) for part in form) + ZONE) for name, form in FORMS.items()}
-DURATION = re.compile("(?P<sign>-?)P(?=.)(?:(?P<years>[0-9]{1,9})Y)?(?:(?P<months>[0-9]{1,9})M)?(?:(?P<days>[0-9]{1,9})D)?"
-                      "(?:T(?=.)(?:(?P<hours>[0-9]{1,9})H)?(?:(?P<minutes>[0-9]{1,9})M)?(?:(?P<seconds>[0-9]{1,9})" + POINT + "S)?)?")
+# Zeros in front of a number do not count.
+MOST_NUMBER = 18
+FIELDS = {name: rf"(?P<{name}>0*[0-9]{{1,{MOST_NUMBER}}})" for name in ("years", "months", "days", "hours", "minutes", "seconds")}
+DURATION = re.compile("(?P<sign>-?)P(?=.)(?:{years}Y)?(?:{months}M)?(?:{days}D)?(?:T(?=.)(?:{hours}H)?(?:{minutes}M)?(?:{seconds}{point}S)?)?"
+                      .format(**FIELDS, point=POINT))
 # The months that begin the four moments to which durations are added, from the month 0 of the year 0.
 FOUR_MONTHS = [12 * year + month for year, month in ((1696, 8), (1697, 1), (1903, 2), (1903, 6))]
 DECIMAL = "[+-]?(?:[0-9]+[.]?[0-9]*|[.][0-9]+)"
@@ -33,10 +36,11 @@ def collapsed(text):
 
 @dataclasses.dataclass(frozen=True)
 class Ordered:
-    """A type with bounds: the value of a collapsed text (None: it has none), and whether one value is at most another, and less than it."""
+    """A type with bounds: the value of a collapsed text (None: it has none), and whether one value is at most another, less than it, and the same."""
     value_of: object
     is_at_most: object = operator.le
     is_less: object = operator.lt
+    is_same: object = operator.eq
 
 
 # ---- numbers
@@ -62,9 +66,13 @@ def float_of(text):
     return float(number) if abs(number) < 2 ** 128 else math.copysign(math.inf, number)
 
 
+def is_same_float(one, other):
+    """NaN is the same as itself."""
+    return one == other or one != one and other != other
+
+
 def is_float_at_most(one, other):
-    """NaN is at most itself."""
-    return one <= other or one != one and other != other
+    return one < other or is_same_float(one, other)
 
 
 # ---- moments: whether the zone is known, and units of 10^-18 s
@@ -105,13 +113,17 @@ def moment_of(name, text):
     year += year < 0
     if clock > DAY or day > days_in_month(year, month):
         return None
-    at = days_before(year, month, day) * DAY + clock - offset_of(has["zone"])
-    return has["zone"] is not None, at % DAY if name == "time" else at
+    return has["zone"] is not None, days_before(year, month, day) * DAY + clock - offset_of(has["zone"])
 
 
 def is_before(one, other):
     """Whether it is, in whichever zone one without a zone is."""
     return one[1] + (14 * HOUR if one[0] != other[0] else 0) < other[1]
+
+
+def is_same_time(one, other):
+    """Whether two times are the same moment of the day: their values are moments of one day, by which they are ordered."""
+    return one[0] == other[0] and one[1] % DAY == other[1] % DAY
 
 
 # ---- durations: months, days, hours, minutes and seconds, each number for itself
@@ -125,28 +137,40 @@ def duration_of(text):
     return years, months, days, hours, minutes, seconds * SECOND + sign * fraction_of(found["fraction"])
 
 
-def added_to(month, duration):
+def months_and_time(duration):
     years, months, days, hours, minutes, seconds = duration
-    month += 12 * years + months
-    return days_before(month // 12, month % 12 + 1, 1) * DAY + days * DAY + hours * HOUR + minutes * 60 * SECOND + seconds
+    return 12 * years + months, days * DAY + hours * HOUR + minutes * 60 * SECOND + seconds
+
+
+def added_to(month, duration):
+    months, time = months_and_time(duration)
+    month += months
+    return days_before(month // 12, month % 12 + 1, 1) * DAY + time
 
 
 def is_shorter(one, other):
     return all(added_to(month, one) < added_to(month, other) for month in FOUR_MONTHS)
 
 
+def is_as_long(one, other):
+    """Whether the two are equal in the order: as many months, and as many seconds."""
+    return months_and_time(one) == months_and_time(other)
+
+
 # ---- the types
 
-def or_same(is_less):
-    return lambda one, other: one == other or is_less(one, other)
+def either(one_test, other_test):
+    return lambda one, other: one_test(one, other) or other_test(one, other)
 
 
 def moments(name):
-    return Ordered(lambda text: moment_of(name, text), or_same(is_before), is_before)
+    is_same = is_same_time if name == "time" else operator.eq
+    return Ordered(lambda text: moment_of(name, text), either(is_same, is_before), is_before, is_same)
 
 
-ORDERED = {"decimal": Ordered(decimal_of), "float": Ordered(float_of, is_float_at_most), "double": Ordered(double_of, is_float_at_most),
-           "duration": Ordered(duration_of, or_same(is_shorter), is_shorter), **{name: moments(name) for name in FORMS}}
+ORDERED = {"decimal": Ordered(decimal_of), "float": Ordered(float_of, is_float_at_most, is_same=is_same_float),
+           "double": Ordered(double_of, is_float_at_most, is_same=is_same_float),
+           "duration": Ordered(duration_of, either(is_as_long, is_shorter), is_shorter), **{name: moments(name) for name in FORMS}}
 
 
 def octets(name, text):

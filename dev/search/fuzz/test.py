@@ -315,7 +315,11 @@ class ValuesTest(unittest.TestCase):
                 ("decimal", {"totalDigits": "3"}, None, "0.0001", "invalid"), ("float", {}, "16777216", "16777217", "valid"),
                 ("float", {}, "16777216", "16777217.00000000000001", "invalid"), ("float", {"maxInclusive": "NaN"}, None, "NaN", "valid"),
                 ("duration", {"minInclusive": "P30D"}, None, "P1M", "invalid"), ("duration", {}, "P1Y", "P12M", "invalid"),
-                ("time", {}, "00:00:00Z", "19:00:00-05:00", "valid"), ("gMonthDay", {}, None, "--02-30", "invalid"),
+                ("time", {}, "00:00:00Z", "19:00:00-05:00", "valid"),
+                ("time", {"minInclusive": "08:00:00+09:00"}, None, "09:00:00+09:00", "valid"),
+                ("time", {"minInclusive": "08:00:00+09:00"}, None, "07:00:00+09:00", "invalid"),
+                ("duration", {"maxInclusive": "PT1H"}, None, "PT60M", "valid"), ("duration", {}, None, "P1234567890D", "valid"),
+                ("gMonthDay", {}, None, "--02-30", "invalid"),
                 ("dateTime", {"maxExclusive": "2000-01-01T00:00:00"}, None, "1999-12-31T10:00:00Z", "invalid"),
                 ("hexBinary", {}, "aF", "Af", "valid"), ("base64Binary", {"maxLength": "1"}, None, "A A = =", "valid")):
             self.assertEqual(value_judges.judged(value_texts.Made(name, parameters, value), text), verdict, (name, text))
@@ -329,7 +333,9 @@ class ValuesTest(unittest.TestCase):
         for name, parameters, text, reason in (
                 ("time", {}, "24:00:00", "midnight"), ("dateTime", {}, "2000-01-01T00:00:60", "seconds"), ("duration", {}, "PT.5S", "point"),
                 ("gDay", {}, "---01-14:00", "zone"), ("gYear", {}, "99999999999-01:00", "limits"), ("decimal", {"totalDigits": "1"}, "1.0", "digits"),
-                ("time", {"minInclusive": "01:00:00Z"}, "00:00:00", "recurs"), ("date", {}, "2000-01-01", None), ("float", {}, "1", None)):
+                ("time", {"minInclusive": "23:00:00Z"}, "08:00:00+09:00", "recurs"), ("time", {"minInclusive": "01:00:00Z"}, "00:00:00", None),
+                ("duration", {"maxInclusive": "PT1H"}, "PT60M", "sums"), ("duration", {"maxInclusive": "PT1H"}, "PT61M", None),
+                ("date", {}, "2000-01-01", None), ("float", {}, "1", None)):
             self.assertEqual(values_run.reason_of_text(value_texts.Made(name, parameters), text), reason, (name, text))
 
     def test_that_nothing_differs(self):

@@ -9,7 +9,7 @@ sys.path.append(str(pathlib.Path(__file__).resolve().parents[3] / "programs/prof
 from profile_larger import allows, data_use  # noqa: E402  (the folder is known only here)
 from profile_types import XSD, NotBroughtOver, Param, TypeUse  # noqa: E402
 from profile_values import ORDERED, SECOND, collapsed, octets  # noqa: E402
-from value_texts import MOMENTS, OCTETS  # noqa: E402
+from value_texts import BOUNDS, MOMENTS, OCTETS  # noqa: E402
 
 # A date or a time that `datetime` has. It knows years from 1 to 9999, six digits of a second, and no 24:00:00.
 PLAIN = re.compile(r"(?:(?P<date>[0-9]{4}-[0-9]{2}-[0-9]{2})|-(?P<day>-[0-9]{2}-[0-9]{2}))?T?(?P<clock>[0-9]{2}:[0-9]{2}:[0-9]{2}(?:[.][0-9]{1,6})?)?"
@@ -29,10 +29,6 @@ def is_taken(made):
     return True
 
 
-def same(one, other):
-    return one == other or one != one and other != other
-
-
 def places_and_units(number):
     """The digits behind the point of a decimal, without zeros at the end, and its digits as an integer."""
     sign, digits, exponent = number.as_tuple()
@@ -47,6 +43,14 @@ def is_within_digits(parameters, number):
     places, units = places_and_units(number)
     total, fraction = (int(parameters[key]) if key in parameters else None for key in ("totalDigits", "fractionDigits"))
     return (total is None or units < 10 ** total and places <= total) and (fraction is None or places <= fraction)
+
+
+def is_equal_beside(made, text):
+    """Whether a text is equal in the order to the value of a type, or to one of its bounds."""
+    order = ORDERED[made.name]
+    texts = [made.value] if made.value is not None else [one for key, one in made.parameters.items() if key in BOUNDS]
+    values = [order.value_of(collapsed(one)) for one in (text, *texts)]
+    return None not in values and any(order.is_at_most(values[0], one) and order.is_at_most(one, values[0]) for one in values[1:])
 
 
 def is_within_bounds(made, value):
@@ -81,7 +85,7 @@ def judged(made, text):
     if value is None:
         return "invalid"
     if made.value is not None:
-        return "valid" if same(value, order.value_of(collapsed(made.value))) else "invalid"
+        return "valid" if order.is_same(value, order.value_of(collapsed(made.value))) else "invalid"
     is_good = is_within_bounds(made, value) and (made.name != "decimal" or is_within_digits(made.parameters, value))
     return "valid" if is_good else "invalid"
 
@@ -107,4 +111,4 @@ def is_dated_alike(name, text):
     mine, its = ORDERED[name].value_of(collapsed(text)) if name in MOMENTS else None, by_datetime(name, text)
     if mine is None or its is None:
         return True
-    return mine == (its[0], (its[1] - TO_FIRST) % (86400 * SECOND) if name == "time" else its[1])
+    return mine == its

@@ -19,14 +19,14 @@ import tempfile
 import time
 
 from datatypes_run import Judges
-from value_judges import is_dated_alike, is_taken, judged
+from value_judges import is_dated_alike, is_equal_beside, is_taken, judged
 from value_texts import BOUNDS, LENGTHS, MOMENTS, made, text_of
 
 HERE = pathlib.Path(__file__).resolve().parent
 BATCH, TEXTS = 200, 80
 # Why jing says otherwise, beside the reasons that LANGUAGE names
 OF_JING = {
-    "limits": "more than 18 digits behind a second's point, 10 of a year or 9 of a number of a duration",
+    "limits": "more than 18 digits behind a second's point, 10 of a year or 18 of a number of a duration",
     "steps": "jing takes each parameter for a restriction of those before it, and wants that a bound suits them",
     "orders": "jing takes bounds in a wrong order, or two at one end",
     "lengths": "jing takes lengths of moments and durations (XML Schema Part 2, 4.3.1)",
@@ -44,7 +44,7 @@ def reason_of_lexical(name, text):
         return "point"
     if name in MOMENTS and re.search("-14:00", text):
         return "zone"
-    if re.search(r"[.][0-9]{19}|[0-9]{11}-", text) or name == "duration" and re.search("[0-9]{10}", text):
+    if re.search(r"[.][0-9]{19}|[0-9]{11}-", text) or name == "duration" and re.search("[1-9][0-9]{18}", text):
         return "limits"
     return None
 
@@ -57,7 +57,7 @@ def reason_of_text(made_type, text):
         return "digits"
     if made_type.name in MOMENTS and re.search("[.][0-9]{4}", " ".join(texts)):
         return next(words, "fraction")
-    return next(words, "recurs" if made_type.name == "time" and re.search("[Z+-]", " ".join(texts)) else None)
+    return next(words, {"time": "recurs", "duration": "sums"}.get(made_type.name) if is_equal_beside(made_type, text) else None)
 
 
 def reason_of_schema(made_type, ours, theirs):
