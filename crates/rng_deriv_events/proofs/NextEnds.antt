@@ -234,6 +234,7 @@ with_table p u = record {
   state = record { table = u; now = p.state.now; carried = p.state.carried; steps = p.state.steps };
   has_begun = p.has_begun;
   held = p.held;
+  keeps_tag = p.keeps_tag;
 }
 
 module _ (g h : Reading) (keys others : Keys) (old new : List (Simple ℕ)) (longer : Longer old new) (p : Position) (u : LevelTable)

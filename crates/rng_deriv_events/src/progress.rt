@@ -167,7 +167,7 @@ impl Progress {
     /// nothing where no continuation is valid already. Allocates nothing.
     pub fn keep_tag(&mut self)
         ensures inside { (g : Reading) (keys : Keys) (trees : List (Simple ℕ)) → IsProgressInside g keys trees self.old → IsProgressInside g keys trees self.new }
-        ensures known { (g : Reading) (trees : List (Simple ℕ)) (es : List trees.Event) → IsKnown g trees self.old es → IsKnown g trees self.new es }
+        ensures known { (g : Reading) (known : List (Simple ℕ)) (es : List trees.Event) → IsKnown g known self.old es → IsKnown g known self.new es }
         ensures mode { failed_line self.old ≡ None → KeepsTag true self.new }
         ensures failed { failed_line self.new ≡ failed_line self.old }
         ensures tests { tests_strings self.new ≡ tests_strings self.old }

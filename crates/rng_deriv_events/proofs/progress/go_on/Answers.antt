@@ -75,7 +75,7 @@ returns-then-level-clause-progress g c =
     fails reading old mid (open_position p) (open_position n) (event_at c.args.line kind) (told.step kind of) come.0 es here new (left_of l) l.may_end l.event
     (left_leads reading basis.keys old mid new p (levels_in t) mark l kept told.longer left.longer told.levels c.of-mark.ensures left.left come.0 es here)
     (mark_tells reading basis.keys old mid p t mark l.may_end kept told.longer told.levels c.of-mark.ensures ends come.0 es here)
-    (subst (λ (e : FailedEvent). IsFailedEvent e kind) (sym left.event) (c.in_ok-event.ensures kind of)) all
+    (subst (λ (e : FailedEvent). IsFailedEvent e kind) (sym left.event) (c.in_ok-event.ensures.event kind of)) all
 
 pub renew-requires : goal.renew-requires
 renew-requires g c = c.in_ok-step_by.ensures.keeps.right
