@@ -86,7 +86,7 @@ const char *options_help(void) {
            "      --files-from FILE  names of documents, a line each, or ended by a zero byte each; `-` is standard input\n"
            "  -0, --null           a zero byte ends each of these names, also if a line feed comes before the first one\n"
            "      --stdin-name NAME  how standard input is called in what is printed\n"
-           "  -j, --jobs N         judge N documents at once, 64 at most (else the number of processors)\n"
+           "  -j, --jobs N         judge N documents at once, from 1 to 64 (else the number of processors)\n"
            "      --dtd            read the external DTD and external entities of a document, from files\n"
            "      --max-depth N    the most elements that may be open; also entities, or brackets of a declaration, in one another (else 10,000)\n"
            "      --max-memory SIZE  the most memory that a document may take, in bytes, or with K, M or G (else 512M)\n"
@@ -150,19 +150,6 @@ static int place_in(const char *const *list, const char *word) {
         }
     }
     return -1;
-}
-
-static bool take_jobs(struct options *options, const char *value) {
-    char *end;
-    if (value[0] < '0' || value[0] > '9') {
-        return is_wrong(options, "--jobs wants a number, and not '%s'", value);
-    }
-    unsigned long number = strtoul(value, &end, 10);
-    if (*end != '\0') {
-        return is_wrong(options, "--jobs wants a number, and not '%s'", value);
-    }
-    options->jobs = number > MOST_JOBS ? MOST_JOBS : (unsigned)number;
-    return true;
 }
 
 /* Reads a size: a number that is not 0, with K, M or G behind it if `has_unit`. */
@@ -247,7 +234,7 @@ static bool take_list(struct options *options, const char *value) {
 static bool take_value(struct options *options, enum name name, const char *value) {
     switch (name) {
     case NAME_JOBS:
-        return take_jobs(options, value);
+        return take_number(options, value, MOST_JOBS, "--jobs wants a number from 1 to 64, and not '%s'", &options->jobs);
     case NAME_GLOB:
         return add_word(options, &options->globs, &options->glob_count, value);
     case NAME_FILES_FROM:

@@ -39,7 +39,7 @@ struct options {
     size_t most_files;      /* that the library gets; 0: as many as it takes */
     const char *files_from;
     const char *input_name; /* the name of standard input in what is printed */
-    unsigned jobs;          /* 0: as many as there are processors */
+    size_t jobs;            /* 0: as many as there are processors */
     enum format format;
     enum when color;
     enum when source; /* when lines of documents are shown */
