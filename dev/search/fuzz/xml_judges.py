@@ -17,10 +17,10 @@ CRASHES = re.compile(r"Sanitizer|runtime error|DEADLYSIGNAL")
 
 
 class Said:
-    """An answer: its kind, the words of the judge, and the line and column if they are known."""
+    """An answer: its kind, the words of the judge, the line and column if they are known, and whether something was noted beside."""
 
-    def __init__(self, kind, words="", place=(0, 0)):
-        self.kind, self.words, self.place = kind, words, place
+    def __init__(self, kind, words="", place=(0, 0), noted=False):
+        self.kind, self.words, self.place, self.noted = kind, words, place, noted
 
     def __repr__(self):
         at = ":{}:{}".format(*self.place) if self.place[0] else ""
@@ -38,8 +38,8 @@ def lay_out(folder, schemas):
 class Program:
     """rncv-xml. It judges many documents in one run. If a run ends badly, each of its documents is judged alone."""
 
-    def __init__(self, path, folder):
-        self.path, self.folder, self.runs = str(path), folder, 0
+    def __init__(self, path, folder, options=()):
+        self.path, self.folder, self.options, self.runs = str(path), folder, options, 0
 
     def check(self, schema):
         """Ends if the program refuses a schema."""
@@ -56,7 +56,7 @@ class Program:
 
     def once(self, schema, names):
         self.runs += 1
-        words = [self.path, "-j", "1", "--format", "json", schema, "--", *names]
+        words = [self.path, *self.options, "-j", "1", "--format", "json", schema, "--", *names]
         try:
             run = subprocess.run(words, cwd=self.folder, capture_output=True, timeout=SECONDS + len(names), check=False)
         except subprocess.TimeoutExpired:
@@ -68,20 +68,23 @@ class Program:
             self.failure = Said("failed", f"status {run.returncode}, {len(lines)} lines: {errors[-2000:]}")
             return None
         notes = {it.split(":")[0] for it in errors.splitlines() if ": note: " in it}
-        return [answer_of(json.loads(line), notes) for line in lines]
+        try:
+            return [answer_of(json.loads(line), notes) for line in lines]
+        except (ValueError, TypeError, KeyError):
+            self.failure = Said("failed", f"its lines are no answers in JSON: {lines[0][:200]!a}")
+            return None
 
 
 def answer_of(line, notes):
-    said = Said(line["verdict"], line.get("message", ""), (line.get("line", 0), line.get("column", 0)))
-    said.noted = line["file"] in notes or bool(line.get("notes"))
-    return said
+    place = line.get("line", 0), line.get("column", 0)
+    return Said(line["verdict"], line.get("message", ""), place, line["file"] in notes or bool(line.get("notes")))
 
 
-def converted(converter, folder, name):
+def converted(converter, folder, name, options=()):
     """What is wrong with a run of xml2pyx, or None; and its PYX in the form of XmlJudge.java, or None: no instructions, attributes by name, one line for
     a text."""
     try:
-        run = subprocess.run([str(converter), name], cwd=folder, capture_output=True, timeout=SECONDS, check=False)
+        run = subprocess.run([str(converter), *options, name], cwd=folder, capture_output=True, timeout=SECONDS, check=False)
     except subprocess.TimeoutExpired:
         return Said("failed", "xml2pyx: no answer in time"), None
     errors = run.stderr.decode("utf-8", "replace")
