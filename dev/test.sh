@@ -54,8 +54,9 @@ tests limits python3 -B "$here/search/limits/test.py" "$program" &
 tests datatypes env -u RNCV_REQUIRED ${built:+RNCV_REQUIRED=1} python3 -B "$here/check/datatypes/run.py" --program "$RNCV_XML_PROGRAMS/rncv-xml" &
 tests patterns env -u RNCV_REQUIRED ${built:+RNCV_REQUIRED=1} python3 -B "$here/check/patterns/run.py" --program "$RNCV_XML_PROGRAMS/rncv-xml" &
 tests shipped env -u RNCV_REQUIRED ${built:+RNCV_REQUIRED=1} python3 -B "$here/search/shipped/test.py" &
+tests conformance env -u RNCV_REQUIRED ${built:+RNCV_REQUIRED=1} python3 -B "$here/search/conformance/test.py" &
 wait
-for part in profile clauses cost bench transcripts believed restated pages edits xml packaging lsp site prove refused_growths streams fuzz limits datatypes patterns shipped; do
+for part in profile clauses cost bench transcripts believed restated pages edits xml packaging lsp site prove refused_growths streams fuzz limits datatypes patterns shipped conformance; do
   cat "$room/$part"
   [ "$(cat "$room/$part.status")" = 0 ] || failed="$failed $part"
 done
