@@ -1,6 +1,6 @@
 -- Patterns in which notAllowed occurs nowhere, as the rules of section 4.20 leave it, and what they take (RELAX NG
 -- Specification, section 6.2).
-use Rattle.std.specs.Prelude.{◌≡◌, ℕ, ⊤, List, []}
+use Rattle.std.specs.Prelude.{◌≡◌, ◌⊎◌, ℕ, ⊤, List, []}
 use Rattle.rng_model.specs.simple.Tree.{Simple, s_not_allowed, s_empty, s_text, s_leaf, s_attribute, s_list, s_data, s_data_except, s_value}
 use Rattle.rng_model.specs.simple.Tree.{s_one_or_more, s_joined}
 use Rattle.rng_model.specs.matching.Document.{Attribute, Item}
