@@ -1,0 +1,3 @@
+pub mod characters
+pub mod declarations
+pub mod documents
