@@ -52,7 +52,7 @@ three_lines = codes "(a" ++ 10 ∷ (45 ∷ x_newline_y ++ 10 ∷ (codes ")a" ++ 
 abbrev the_document : Placed
 the_document = element_at 2 expanded_a [] (placed_and (text_at 3 (120 ∷ 10 ∷ 121 ∷ [])) none_placed) 3
 
-nothing_repeats : {A : Type 0} → ¬ (HasTwice {A = A} [])
+pub nothing_repeats : {A : Type 0} → ¬ (HasTwice {A = A} [])
 nothing_repeats r = elim r [ ]
 
 -- they are the element `a` with the text x, line feed, y (docs/use/LANGUAGE.md, "Documents: PYX")

@@ -8,3 +8,9 @@ mod Tokens
 mod Sentences
 mod Printing
 mod Answers
+mod XmlProductions
+mod XmlCharacters
+mod XmlContent
+mod XmlDeclarations
+mod XmlConstraints
+mod XmlDocuments
