@@ -4,7 +4,8 @@
     dev/check/believed/notation.py [TOP]      (TOP: a checkout, else the one of this file)
 
 The first column of its tables has each word of the kit that a believed file imports, and each word of the language that is in one. A sign `◌∷◌` is there
-as `∷`. Each row has one of these words: a row for a word that is no longer used has to go. The closure of run.py says which files are believed.
+as `∷`. Each row has one of these words: a row for a word that is no longer used has to go. The closure of run.py says which files are believed. The page
+also has the words of the definitions for calls to come, which no contract cites yet.
 """
 import pathlib
 import re
@@ -15,6 +16,7 @@ from run import HERE, judged  # noqa: E402
 from texts import imports, is_file  # noqa: E402
 
 PAGE = "docs/proof/NOTATION.md"
+TO_COME = ("xml_model",)
 LANGUAGE = ("→", "×", "λ", "¬", "⊥", "Unit", "tt", "Type", "abbrev", "unfoldable", "opaque", "data", "record", "where", "mutual", "module", "pub", "use", "as",
             "let", "in", "elim", "open", "unfolding", "infix", "infixl", "infixr", "absurd", "refl")
 TOKEN = re.compile(r"[^\s(){}\[\],.\"`]+|\[\]")
@@ -49,11 +51,16 @@ def faults(words, page):
             yield f"{PAGE}:{number}: no believed file has a word of this row"
 
 
+def files_to_come(top):
+    """The files of definitions that no contract cites yet."""
+    return sorted(str(file.relative_to(top)) for crate in TO_COME for file in (top / "crates" / crate / "specs").rglob("*.antt"))
+
+
 def believed_words(top):
-    """The words of the believed files of a checkout, each with the first file that has it."""
+    """The words of the believed files of a checkout, and of those for calls to come, each with the first file that has it."""
     closure = judged(top, HERE)[0]
     found = {}
-    for file in sorted(filter(is_file, closure.parent)):
+    for file in [*sorted(filter(is_file, closure.parent)), *files_to_come(closure.crates.top)]:
         for word in words_of(closure.crates, file):
             found.setdefault(word, file)
     return found
