@@ -80,7 +80,8 @@ pub data AreAttributeDefinitions (d : Declared) (element : List ℕ) : List ℕ 
       → AreAttributeDefinitions d element more attributes → all ≡ s ++ (n ++ (t ++ (type ++ (u ++ (default ++ more)))))
       → AreAttributeDefinitions d element all (record { element = element; name = n; tokenized = tokenized; default = value } ∷ attributes)
 
--- AttlistDecl (production 52)
+-- AttlistDecl (production 52). In d is what is declared before: a declaration precedes each reference to it in a default
+-- (WFC Entity Declared).
 pub record DeclaresAttributes (d : Declared) (all : List ℕ) (attributes : List DeclaredAttribute) : Type 0 where
   pub space : List ℕ
   pub element : List ℕ

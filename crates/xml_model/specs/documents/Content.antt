@@ -42,7 +42,8 @@ module _ (d : Declared) where
           → IsXmlContent content inner → MaySpace s → all ≡ codes "<" ++ (tag ++ (codes ">" ++ (content ++ (codes "</" ++ (name ++ (s ++ codes ">"))))))
           → events ≡ start name attributes ∷ (inner ++ end ∷ []) → IsXmlElement all events
 
-    -- content (production 43), item by item; CharData (production 14) is one character after the other
+    -- content (production 43), item by item; CharData (production 14) is one character after the other. A `%` is such a
+    -- character (section 4.4.1).
     pub data IsXmlContent : List ℕ → List XmlEvent → Type 0 where
       no_content : IsXmlContent [] []
       character_and : {c : ℕ} {text : List ℕ} {events : List XmlEvent} → c ≢ 0x3C → c ≢ 0x26 → starts_with (◌==◌) (c ∷ text) (codes "]]>") ≡ false
