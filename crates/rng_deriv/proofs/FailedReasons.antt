@@ -80,7 +80,7 @@ left_there t s state event may_end progress.Lost is keeps es known = absurd keep
 
 pub nothing_told : (t : Table) (s : MatcherState) (state : IsStateBy t s) (event : FailedEvent) (may_end : Bool)
     → ((kind : EventKind) → IsFailedEvent event kind → (left : Alternatives)
-        → IsEventReason (reading_of t) (trees_in (matching_in t s)) kind may_end left reasons.NothingMatches)
+    → IsEventReason (reading_of t) (trees_in (matching_in t s)) kind may_end left reasons.NothingMatches)
     → KeepsFailed event may_end s.progress → (es : List Event) → Knows (matching_in t s) es
     → IsReason (reading_of t) s.progress (trees_in (matching_in t s)) (Some reasons.NothingMatches) es
 nothing_told t s state event may_end is keeps es known =
