@@ -104,7 +104,7 @@ none_is g trees progress.Lost es none = tt
 
 kept_is_told : (e : FailedEvent) → IsKept true e → is_told e ≡ true
 kept_is_told (events.Start name attrs) kept = refl
-kept_is_told events.UnkeptStart kept = kept
+kept_is_told events.UnkeptStart kept = sym kept
 kept_is_told events.Text kept = refl
 kept_is_told events.End kept = refl
 
