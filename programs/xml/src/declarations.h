@@ -57,8 +57,8 @@ struct declarations {
     bool has_blank_references; /* an entity has a reference to a blank other than a space */
     bool has_marks;            /* libxml2 has marks for such references, which may be in attributes from now on */
     bool has_skipped;          /* a reference to an entity that is not declared was passed over */
-    bool has_long;             /* there is a long entity (inclusions.h): what refers to entities is included too, */
-    bool has_long_parameter;   /* .. the same for parameter entities */
+    bool has_long;             /* there is a long entity (inclusions.h), so entities that refer to others are included too */
+    bool has_long_parameter;   /* the same for parameter entities */
     size_t referring;          /* how many general entities refer to others */
     xmlHashTablePtr heights;   /* how many entities are in one another in an entity, and one more; 1: that is being found out */
     struct nested_parameters nested;

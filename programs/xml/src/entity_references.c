@@ -2,7 +2,6 @@
 
 #include "entity_balance.h"
 #include "entity_heights.h"
-#include "entity_names.h"
 #include "entity_text.h"
 #include "including.h"
 #include "nested_parameters.h"
@@ -357,7 +356,7 @@ static xmlEntityPtr include(struct declarations *declarations, xmlEntityPtr enti
     return nothing(declarations);
 }
 
-/* Includes the text of a tall entity in content, with the texts of others in it, if that is long. NULL: it is not, and the text is not kept. */
+/* Includes the text of a tall entity in content, with the texts of others in it, if that is long. NULL: it is not, and is kept for libxml2. */
 static xmlEntityPtr include_tall(struct declarations *declarations, xmlEntityPtr entity) {
     struct bytes text = NO_BYTES;
     struct twin *twins = twins_of(declarations, entity);
@@ -370,6 +369,8 @@ static xmlEntityPtr include_tall(struct declarations *declarations, xmlEntityPtr
     bool is_included = text.length > LONGEST_ENTITY && !text.failed && declarations->feed->fault->kind == FAULT_NONE;
     if (is_included) {
         feed_include(declarations->feed, entity, (struct span){text.data, text.length}, &text);
+    } else if (may_be_long) {
+        twins->written = copy_of(declarations, entity, &text);
     }
     bytes_free(&text);
     return is_included ? nothing(declarations) : NULL;

@@ -17,7 +17,6 @@
 #include <libxml/SAX2.h>
 #include <libxml/parserInternals.h>
 #include <libxml/uri.h>
-#include <limits.h>
 #include <stdlib.h>
 #include <string.h>
 

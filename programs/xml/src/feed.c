@@ -816,7 +816,8 @@ static size_t give_section(struct feed *feed, char *bytes, size_t most) {
 }
 
 void feed_shrink(struct feed *feed) {
-    if (feed_is_read(feed) && held_by_parser(feed) >= LONGEST_HELD) {
+    bool is_in_section = feed->section.is_cut || feed->section.is_continued;
+    if (feed_is_read(feed) && !is_in_section && held_by_parser(feed) >= LONGEST_HELD) {
         xmlParserInputShrink(feed->parser->input);
     }
 }
