@@ -21,6 +21,7 @@ void declarations_open(struct declarations *declarations, struct feed *feed, con
     memset(declarations, 0, sizeof *declarations);
     declarations->feed = feed;
     declarations->sink = sink;
+    declarations->between = 1;
     declarations->nothing.type = XML_ENTITY_DECL;
     declarations->nothing.etype = XML_INTERNAL_PARAMETER_ENTITY;
     declarations->nothing.name = no_name;
@@ -81,6 +82,10 @@ void declarations_keep_long(struct declarations *declarations, bool is_parameter
     }
     declarations->has_long |= !is_parameter;
     declarations->has_long_parameter |= is_parameter;
+}
+
+bool declarations_is_inside(const struct declarations *declarations) {
+    return (size_t)declarations->feed->parser->inputNr > declarations->between;
 }
 
 bool loads_external(const struct declarations *declarations) {
@@ -423,6 +428,7 @@ void declarations_external(struct declarations *declarations, const xmlChar *nam
     }
     feed->away_at = feed_offset(feed);
     feed->is_away = true;
+    declarations->between = 1;
     feed->parser->loadsubset = XML_DETECT_IDS;
     xmlSAX2ExternalSubset(feed->parser, name, public, system);
     feed->is_away = false;

@@ -57,6 +57,7 @@ struct declarations {
     bool has_blank_references; /* an entity has a reference to a blank other than a space */
     bool has_marks;            /* libxml2 has marks for such references, which may be in attributes from now on */
     bool has_skipped;          /* a reference to an entity that is not declared was passed over */
+    size_t between;            /* of the inputs of libxml2 so many, from the outermost on, were begun between declarations */
     bool has_long;             /* there is a long entity (inclusions.h), so entities that refer to others are included too */
     bool has_long_parameter;   /* the same for parameter entities */
     size_t referring;          /* how many general entities refer to others */
@@ -122,6 +123,9 @@ size_t declarations_most_levels(const struct declarations *declarations);
 
 /* Refuses a document in which there are more. */
 void declarations_refuse_levels(struct declarations *declarations);
+
+/* Whether libxml2 reads the text of a parameter entity that a declaration refers to. */
+bool declarations_is_inside(const struct declarations *declarations);
 
 /* Whether each entity that is referred to has to be declared in the document itself (XML 1.0, 4.1, WFC: Entity Declared). */
 bool declarations_are_all(const struct declarations *declarations);

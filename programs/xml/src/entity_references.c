@@ -579,6 +579,23 @@ static bool is_in_declaration(struct declarations *declarations) {
     return parser->inputNr > 1 && at > parser->input->base && at[-1] == '<';
 }
 
+/* Notes whether the reference that libxml2 has read is between declarations, as those around it are then. */
+static void note_between(struct declarations *declarations) {
+    const xmlParserCtxt *parser = declarations->feed->parser;
+    size_t level = (size_t)parser->inputNr;
+    const xmlChar *at = parser->input->cur;
+    while (at > parser->input->base && strchr("<>[", at[-1]) == NULL) {
+        at--;
+    }
+    declarations->expanded += (uint64_t)(parser->input->cur - at); /* what the search costs */
+    bool is_between = at > parser->input->base ? at[-1] != '<' : level <= declarations->between;
+    if (is_between) {
+        declarations->between = level + 1;
+    } else if (declarations->between > level) {
+        declarations->between = level;
+    }
+}
+
 /* Notes that a parameter entity is not read. One that is declared nowhere has nothing, unless one that was not read before it may declare it. */
 static void note_unread(struct declarations *declarations, const xmlEntity *entity, const xmlChar *name) {
     struct place place = declarations_parameter_place(declarations);
@@ -605,6 +622,9 @@ xmlEntityPtr declarations_parameter(struct declarations *declarations, const xml
         return entity;
     }
     declarations->is_second ^= may_end_step(feed, name);
+    if (feed->parser->depth == 0) {
+        note_between(declarations);
+    }
     if (declarations->has_dropped) {
         declarations_refuse(declarations, "a reference behind a parameter entity whose system identifier is no URI: outside the profile");
     }

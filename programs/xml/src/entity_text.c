@@ -9,6 +9,8 @@
 static const char blanks[] = "\t\n\r";
 static const char marks[] = "\x01\x02\x03";
 
+static const char of_entity[] = "<!ENTITY";
+
 const char instruction_mark[] = "\xF4\x8F\xBF\xBF"; /* U+10FFFF, which is no character of any language */
 
 enum { MOST_CODE = 0x110000 };
@@ -433,15 +435,52 @@ static size_t declared_length(struct span text) {
     return section != NULL ? section_length(text, section) : is_literal ? literal_length(text) : 1;
 }
 
+bool entity_text_is_read_otherwise(const char *text) {
+    bool may_have_percent = strstr(text, "<?") != NULL && strchr(text, '%') != NULL;
+    return may_have_percent || (strchr(text, '\r') != NULL && strstr(text, of_entity) != NULL);
+}
+
+/* How many blanks begin the rest of the text behind the place. */
+static size_t blanks_behind(struct span text, size_t at) {
+    size_t begin = at;
+    while (at < text.length && is_blank_byte(text.data[at])) {
+        at++;
+    }
+    return at - begin;
+}
+
+/* Where the value is in the declaration of an entity that begins the text (productions 71 to 74); 0: there is none, or it has identifiers. */
+static size_t value_in_declaration(struct span text) {
+    size_t at = span_begins(text, of_entity) ? sizeof of_entity - 1 : text.length;
+    at += blanks_behind(text, at);
+    size_t behind_percent = at < text.length && text.data[at] == '%' ? blanks_behind(text, at + 1) : 0;
+    at += behind_percent > 0 ? 1 + behind_percent : 0;
+    while (at < text.length && !is_blank_byte(text.data[at]) && text.data[at] != '>') {
+        at++; /* the name */
+    }
+    at += blanks_behind(text, at);
+    return at < text.length && (text.data[at] == '"' || text.data[at] == '\'') ? at : 0;
+}
+
+/* Writes what is next in a text of declarations. */
+static void rewrite_declared(struct rewriting *rewriting) {
+    struct span rest = rewriting->now.rest;
+    size_t value = value_in_declaration(rest);
+    size_t length = declared_length(rest);
+    if (value > 0) {
+        copy(rewriting, value);
+        rewrite_section(rewriting, literal_length(rewriting->now.rest), "&#13;");
+    } else if (span_begins(rest, "<?")) {
+        rewrite_instruction(rewriting, length);
+    } else {
+        copy(rewriting, length);
+    }
+}
+
 void entity_text_declarations(struct span text, struct bytes *to) {
     struct rewriting rewriting = {.now = {text, IN_CONTENT, '\0'}, .to = to};
     while (rewriting.now.rest.length > 0) {
-        size_t length = declared_length(rewriting.now.rest);
-        if (span_begins(rewriting.now.rest, "<?")) {
-            rewrite_instruction(&rewriting, length);
-        } else {
-            copy(&rewriting, length);
-        }
+        rewrite_declared(&rewriting);
     }
 }
 

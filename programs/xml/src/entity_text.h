@@ -22,9 +22,13 @@ bool entity_text_next(struct span *rest, struct span *name);
 /* The length of the comment, the instruction or the CDATA section at the start of the text; 0: there is none. */
 size_t entity_text_section(struct span text);
 
-/* Adds the text of a parameter entity, with this mark before each percent sign that begins the data of an instruction: libxml2 takes it for a reference. */
+/* Adds the text of a parameter entity, with this mark before each percent sign that begins the data of an instruction: libxml2 takes it for a reference. A
+ * carriage return in the value of an entity becomes a reference. */
 extern const char instruction_mark[];
 void entity_text_declarations(struct span text, struct bytes *to);
+
+/* Whether the text of a parameter entity may have one of these. */
+bool entity_text_is_read_otherwise(const char *text);
 
 /* Whether a text of declarations has no begun declaration, comment or instruction at its end. */
 bool entity_text_is_whole(struct span text);

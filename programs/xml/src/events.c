@@ -52,7 +52,7 @@ struct reader {
     bool is_unusual;     /* the next tag may be such a one, or elements may declare namespaces by default */
     bool is_empty;       /* the end of the last start tag is in it */
     bool has_marked_uri; /* a namespace had marks */
-    bool has_fragment;   /* the last declaration, or one before, has a system identifier with a fragment */
+    bool has_passed;     /* the last declaration, or one before, had an error that was passed */
     uint64_t allowed; /* how many times what a tag usually may cost is allowed: it grows with the square of its attributes */
     size_t unasked;    /* the bytes of texts since the receiver was asked how much it keeps */
     uint64_t searched; /* how many open namespaces were looked at for names */
@@ -1186,13 +1186,13 @@ static void take_comment(void *context, const xmlChar *text) {
     }
 }
 
-/* What was read is no markup that goes on. Makes libxml2 as it was before a fragment. */
+/* What was read is no markup that goes on. Makes libxml2 as it was before an error that was passed. */
 static void move_on(struct reader *reader) {
     feed_check_inclusion(&reader->feed);
-    if (reader->has_fragment) {
+    if (reader->has_passed) {
         reader->feed.parser->recovery = 0;
         reader->feed.parser->wellFormed = 1;
-        reader->has_fragment = false;
+        reader->has_passed = false;
     }
     if (reader->fault->kind == FAULT_NONE && feed_is_read(&reader->feed)) {
         feed_move(&reader->feed, feed_offset(&reader->feed));
@@ -1232,7 +1232,7 @@ static xmlParserInputPtr give_input(void *context, const xmlChar *public, const 
 /* The text that libxml2 is to keep of an entity. Free the bytes. */
 static xmlChar *kept_text(struct reader *reader, int type, xmlChar *text, struct bytes *written) {
     const char *begin = (const char *)text;
-    if (type != XML_INTERNAL_PARAMETER_ENTITY || text == NULL || strstr(begin, "<?") == NULL || strchr(begin, '%') == NULL) {
+    if (type != XML_INTERNAL_PARAMETER_ENTITY || text == NULL || !entity_text_is_read_otherwise(begin)) {
         return text;
     }
     entity_text_declarations((struct span){begin, strlen(begin)}, written);
@@ -1322,11 +1322,13 @@ static void take_unparsed(void *context, const xmlChar *name, const xmlChar *pub
     move_on(reader);
 }
 
+/* Only libxml2's own handler would see that both identifiers are missing (production 82). */
 static void take_notation(void *context, const xmlChar *name, const xmlChar *public, const xmlChar *system) {
-    (void)name;
-    (void)public;
-    (void)system;
-    move_on(context);
+    struct reader *reader = context;
+    if (public == NULL && system == NULL) {
+        fault_set(reader->fault, FAULT_MALFORMED, declarations_place(&reader->declarations), "malformed XML: notation '%s' has no identifier", plain(name));
+    }
+    move_on(reader);
 }
 
 /* Refuses a declaration in entities with too many choices that came at once. The document itself may have any number: libxml2 gets few of them. */
@@ -1492,11 +1494,23 @@ static bool declares_parameter(const xmlParserCtxt *parser) {
     return !span_begins(span_from(read, at), begin) || blanks == rest.length || rest.data[blanks] == '%';
 }
 
-/* Lets libxml2 go on behind a system identifier with a fragment, which is an error, and no fatal one (4.2.2). It drops a parameter entity with one. */
-static void pass_fragment(struct reader *reader, xmlParserCtxtPtr parser) {
-    parser->recovery = 1;
-    reader->has_fragment = true;
-    reader->declarations.has_dropped |= declares_parameter(parser);
+/* Lets libxml2 go on behind an error of a declaration that is no fatal one in XML. */
+static void pass_error(struct reader *reader) {
+    reader->feed.parser->recovery = 1;
+    reader->has_passed = true;
+}
+
+/* Does so behind a system identifier with a fragment (4.2.2). libxml2 drops a parameter entity with one. */
+static void pass_fragment(struct reader *reader) {
+    pass_error(reader);
+    reader->declarations.has_dropped |= declares_parameter(reader->feed.parser);
+}
+
+/* Whether a group, or a declaration that ends in a parameter entity, begins in another text: that is a matter of validity (2.8 and 3.2.1). A declaration that
+ * goes on behind the entity in which it begins breaks a rule of form (WFC: PE Between Declarations). */
+static bool is_of_nesting(const struct reader *reader, const parser_error *error) {
+    bool is_inside = error->code == XML_ERR_ENTITY_BOUNDARY && declarations_is_inside(&reader->declarations);
+    return is_about_group(error) || is_inside;
 }
 
 /* Takes what is left of a document type from libxml2. Without memory it would look at the same blank or reference forever. */
@@ -1533,7 +1547,9 @@ static void take_error(void *context, parser_error *error) {
     } else if (error->code == XML_ERR_INVALID_URI && declares_parameter(reader->feed.parser)) {
         reader->declarations.has_dropped = true;
     } else if (error->code == XML_ERR_URI_FRAGMENT) {
-        pass_fragment(reader, reader->feed.parser);
+        pass_fragment(reader);
+    } else if (is_of_nesting(reader, error)) {
+        pass_error(reader);
     } else if (is_too_deep(reader, error)) {
         feed_refuse(&reader->feed, error_place(reader, error), "a declaration has more than %s brackets in one another", reader->feed.models.most,
                     "--max-depth");

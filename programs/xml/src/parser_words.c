@@ -24,6 +24,10 @@ bool takes_prefix_back(const parser_error *error) {
     return is_of_tag && strstr(known(error->message), "Empty XML namespace") != NULL;
 }
 
+bool is_about_group(const parser_error *error) {
+    return error->code == XML_ERR_ENTITY_BOUNDARY && strstr(known(error->message), "content declaration") != NULL;
+}
+
 bool is_limit(parser_error *error) {
     bool is_deep = error->code == XML_ERR_ELEMCONTENT_NOT_FINISHED && strstr(known(error->message), "too deep") != NULL;
     return error->domain == XML_FROM_PARSER && (is_deep || error->code == XML_ERR_NAME_TOO_LONG);

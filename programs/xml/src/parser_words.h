@@ -21,6 +21,9 @@ bool is_malformed(parser_error *error);
 /* Whether a tag takes a prefix back, the first of the error's strings. Namespaces in XML 1.1 allows that. */
 bool takes_prefix_back(const parser_error *error);
 
+/* Whether it is about a group of a content model that begins in one text and ends in another. */
+bool is_about_group(const parser_error *error);
+
 /* Whether libxml2 does not go on at something that XML allows. */
 bool is_limit(parser_error *error);
 const char *limit_words(parser_error *error);

@@ -395,6 +395,24 @@ class Lines(InFolder):
             names.append(self.write(f"p{number}.xml", f"<!DOCTYPE a [<!ENTITY % p SYSTEM '{number}.dtd'>%p;{subset}%p;]><a x='1'/>"))
         self.assertEqual(self.judge("--dtd", "s.rnc", *names), ("", 0))
 
+    def test_nesting_in_parameter_entities(self):
+        """That groups, and declarations which end in parameter entities, nest properly is a matter of validity (2.8, 3.2.1). What begins in an entity between
+        declarations ends there (WFC: PE Between Declarations)."""
+        nested = ('"(b">%(o)s<!ELEMENT a (%%o;)*)>', '"(b">%(o)s<!ELEMENT a %%o;)>', '"b)">%(o)s<!ELEMENT a (%%o;>', '"(b)>">%(o)s<!ELEMENT a %%o;',
+                  '"c CDATA #IMPLIED>">%(o)s<!ATTLIST a %%o;', '"SYSTEM \'x\'>">%(o)s<!NOTATION n %%o;', '"\'x\'>">%(o)s<!ENTITY e %%o;',
+                  '"(#PCDATA|b">%(o)s<!ELEMENT a %%o;)*>', '"b)*">%(o)s<!ELEMENT a (#PCDATA|%%o;>', '"((b),">%(o)s<!ELEMENT a %%o; c)>',
+                  '"a (b)>">%(o)s<!ELEMENT %%o;', '"a (">%(o)s<!ELEMENT %%o;b)>', '"(b)>"><![INCLUDE[%(o)s<!ELEMENT a %%o;]]>')
+        parted = ('"<!ELEMENT a">%%o; (b)>', '"<!ATTLIST a b CDATA">%%o; "x">', '"<!ENTITY e">%%o; "x">', '"<!NOTATION n">%%o; SYSTEM "x">', '"<!ELEMENT a (b">%%o;)>',
+                  '"<!ELEMENT a EMPTY">%%o;>', '"<![INCLUDE[">%%o;<!ELEMENT a ANY>]]>', '"<!--">%%o;-->', '"<?p">%%o;?>')
+        default = "<!ATTLIST a x CDATA '1'>"
+        for declared, status in [(it, 0) for it in nested] + [(it, 2) for it in parted]:
+            with self.subTest(declared=declared):
+                self.write("n.dtd", f"<!ENTITY % o {declared % {'o': '<!--x-->'}}{default}")
+                self.write("n.xml", "<!DOCTYPE a SYSTEM 'n.dtd'><a/>")
+                self.assertEqual(self.judge("-q", "--dtd", "s.rnc", "n.xml")[1], status)
+        self.write("n.xml", f"<!DOCTYPE a [<!ENTITY % o '<!ELEMENT a (b'>%o;)>{default}]><a/>")
+        self.assertEqual(self.judge("-q", "--dtd", "s.rnc", "n.xml")[1], 2)
+
     def test_what_is_no_declaration(self):
         for subset in ("x", "<!X>", "&lt;", "<![IGNORE[]]>", "<!ENTITY % p 'x'>%p;"):
             self.assertRegex(self.line(SCHEMA, f"<!DOCTYPE a [{subset}]><a x='1'/>")[0],
