@@ -38,13 +38,13 @@ look() {
   Python 3.9 or later (python3)"
         packages="$packages python3"
     }
-    printf '#include <libxml/parser.h>\n#if LIBXML_VERSION < 20910\n#error\n#endif\nint main(void) { xmlInitParser(); return 0; }\n' > "$room/xml.c"
+    printf '#include <libxml/parser.h>\n#if LIBXML_VERSION < 20910 || LIBXML_VERSION >= 21200\n#error\n#endif\nint main(void) { xmlInitParser(); return 0; }\n' > "$room/xml.c"
     # shellcheck disable=SC2046  # these are words
     if command -v "$cc" > /dev/null && $cc $(xml2-config --cflags 2> "$room/log" || echo -I/usr/include/libxml2) -o "$room/xml" "$room/xml.c" -lxml2 2> "$room/log"; then
         :
     else
         missing="$missing
-  libxml2 2.9.10 or later, with its headers"
+  libxml2 2.9.10 to 2.11, with its headers"
         packages="$packages libxml2-dev"
     fi
 }

@@ -116,7 +116,7 @@ if command -v dpkg-shlibdeps > /dev/null; then
     depends=$(cd "$room/source" && dpkg-shlibdeps -O -xrncv "-S$root" "-l$root/usr/lib" "$@" 2> "$room/log" | sed -n 's/^shlibs:Depends=//p')
     [ -n "$depends" ] || cat "$room/log" >&2
 fi
-[ -n "$depends" ] || depends="libc6 (>= 2.36), libxml2 (>= 2.9.10)"
+[ -n "$depends" ] || depends="libc6 (>= 2.36), libxml2 (>= 2.9.10), libxml2 (<< 2.12)"
 
 # in KiB, as Debian counts it: file systems count otherwise
 size=$(find "$root/usr" \( -type f -printf '%s\n' -o -printf '1\n' \) | awk '{ sum += int(($1 + 1023) / 1024) } END { print sum }')

@@ -1,7 +1,7 @@
 #!/bin/sh
 # Builds rncv-xml, rng2rnc and xml2pyx:   programs/xml/build.sh [FOLDER]
 #
-# FOLDER, by default build/xml at the top of the repository, then has the three programs. They need a C compiler, the headers of libxml2 (2.9.10 or later)
+# FOLDER, by default build/xml at the top of the repository, then has the three programs. They need a C compiler, the headers of libxml2 (2.9.10 to 2.11)
 # and, but for xml2pyx, the library. RNCV_LIBRARY names its folder, by default build/library, where programs/library/build.sh leaves it. If something is
 # missing, the script says what, and ends with status 2. It uses CC and CFLAGS. ONLY=xml2pyx builds that program alone, which needs no library.
 set -eu
@@ -23,7 +23,7 @@ trap 'rm -rf "$work"' EXIT
 
 . "$here/parser.sh"
 has_parser "$work" ||
-    missing "no libxml2 2.9.10 or later: install its headers (Debian: apt-get install libxml2-dev; Fedora: libxml2-devel; Homebrew: libxml2)"
+    missing "no libxml2 2.9.10 to 2.11: install its headers (Debian: apt-get install libxml2-dev; Fedora: libxml2-devel; Homebrew: libxml2)"
 
 flags="$flags $("$top/programs/packaging/hardening.sh" objects)"
 linked=$("$top/programs/packaging/hardening.sh" program)
@@ -49,10 +49,10 @@ link_program() {
 shared="$parser_parts program"
 rng="rng_tree rng_namespaces rng_grammar rng_uri rng_prefixes rng_words rng_patterns rng_writer"
 hints="schema_asked schema_types schema_tree schema_grammars schema_words schema_restrictions schema_hints schema_datatypes"
-telling="finding expected scope declared near lists list_fault telling alone_schema contexts alone second_reading judge_forms"
+telling="finding expected scope declared near lists list_fault telling alone_schema contexts alone second_reading"
 merging="schema_walk schema_merging schema_merged_text"
 reading="paths schema_tokens annotation_names schema_annotations origins $rng catalogs schema_files schema_xml $merging"
-ids="text_table id_form id_types id_check schema_ids expressions named_sets stand_ins form_literals schema_controls control_classes control_form schema_context"
+ids="text_table id_form id_types id_check schema_ids schema_context"
 judging="$reading $ids $hints options clause_page documents event_log library_calls judging $telling progress formats source_line report jobs"
 converting="$reading $ids schema_asked event_log library_calls judging $telling"
 

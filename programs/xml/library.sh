@@ -17,10 +17,10 @@ flags="-std=c17 -Wall -Wextra -Wconversion -Werror -pedantic -D_XOPEN_SOURCE=700
 . "$here/parser.sh"
 rng="rng_tree rng_namespaces rng_grammar rng_uri rng_prefixes rng_words rng_patterns rng_writer"
 hints="schema_asked schema_types schema_tree schema_grammars schema_words schema_restrictions schema_hints schema_datatypes"
-telling="finding expected scope declared near lists list_fault telling alone_schema contexts alone second_reading judge_forms"
+telling="finding expected scope declared near lists list_fault telling alone_schema contexts alone second_reading"
 merging="schema_walk schema_merging schema_merged_text"
 schemas="schema_tokens annotation_names schema_annotations origins $rng catalogs $hints schema_files schema_xml $merging"
-ids="text_table id_form id_types id_check schema_ids expressions named_sets stand_ins form_literals schema_controls control_classes control_form"
+ids="text_table id_form id_types id_check schema_ids"
 parts="$parser_parts program paths $schemas $ids event_log library_calls judging $telling library"
 
 missing() { echo "programs/xml/library.sh: $1" >&2; exit 2; }
@@ -40,7 +40,7 @@ prefix=${PREFIX:-$folder}
 work=$(mktemp -d "$folder/objects.XXXXXX")
 trap 'rm -rf "$work"' EXIT
 
-has_parser "$work" || missing "no libxml2 2.9.10 or later: install its headers (Debian: apt-get install libxml2-dev)"
+has_parser "$work" || missing "no libxml2 2.9.10 to 2.11: install its headers (Debian: apt-get install libxml2-dev)"
 
 number() { sed -n "s/^#define RNCV_VERSION_$1 //p" "$library/include/rncv.h"; }
 major=$(number MAJOR)

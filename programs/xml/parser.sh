@@ -13,14 +13,14 @@ else
     parser_flags=-I/usr/include/libxml2
     parser_libs=-lxml2
 fi
-parser_parts="bytes secret fault encoding_tables iso_2022 encodings xml_declaration declaration_blanks decoding markup_scan controls long_references models xml_names runs choices long_names left_out shortening wide_tags sections inclusions including feed entity_text entity_names entity_heights entity_balance nested_parameters declarations attribute_defaults entity_references parser_memory parser_words external shown tag_names known_names long_uris wide_names withdrawn events conversion"
+parser_parts="bytes secret fault encodings xml_declaration declaration_blanks decoding markup_scan long_references models xml_names runs choices long_names left_out shortening wide_tags sections inclusions including feed entity_text entity_names entity_heights entity_balance nested_parameters declarations attribute_defaults entity_references parser_memory parser_words external shown tag_names known_names long_uris wide_names events conversion"
 
-# Whether it is there, and new enough, as a program of a few lines finds in a folder.
+# Whether it is there, and one of those whose tables are as the sources take them (2.9.10 to 2.11), as a program of a few lines finds in a folder.
 has_parser() {
     cat > "$1/parser.c" << 'EOF'
 #include <libxml/parser.h>
-#if LIBXML_VERSION < 20910
-#error "too old"
+#if LIBXML_VERSION < 20910 || LIBXML_VERSION >= 21200
+#error "too old, or too new"
 #endif
 int main(void) { xmlInitParser(); return 0; }
 EOF

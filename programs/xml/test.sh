@@ -40,7 +40,7 @@ judge() {
     status=0
     python3 -B "$here/tests/library_test.py" >"$room/library" 2>&1 & library=$!
     python3 -B "$here/tests/ids_test.py" >"$room/ids" 2>&1 & ids=$!
-    for part in judging blanks messages lists faults datatypes controls schema merging annotations rng hints robust models recipes cases; do
+    for part in judging blanks messages lists faults datatypes schema merging annotations rng hints robust models recipes cases; do
         python3 -B "$here/tests/${part}_test.py" || status=1
     done
     wait "$library" || status=1

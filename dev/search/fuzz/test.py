@@ -143,27 +143,6 @@ class XmlTest(unittest.TestCase):
             found = xml_differences.explanation(data, xml_run.Difference("any.rnc", ours, theirs), lambda changed, agreed=agreed: agreed)
             self.assertEqual(found, key)
 
-    def test_that_instructions_at_the_end_of_an_entity_are_explained(self):
-        document = "<?xml version='{}'?><!DOCTYPE a [<!ENTITY % p '<?p{}?>'>%p;]><a/>"
-        for version, key in (("1.1", "jing-instructions"), ("1.0", None)):
-            same = document.format(version, "").encode()
-            difference = xml_run.Difference("any.rnc", xml_judges.Said("valid"), xml_judges.Said("malformed"))
-            found = xml_differences.explanation(document.format(version, " ").encode(), difference,
-                                                lambda changed, same=same: "valid" if changed == same else None)
-            self.assertEqual(found, key)
-
-    def test_that_brackets_at_the_end_of_an_entity_are_explained(self):
-        """The judges agree about the text that the entity gives if it is written by references, in XML 1.1 alone."""
-        said = xml_judges.Said
-        document = "<?xml version='{}'?><!DOCTYPE a [<!ENTITY e \"{}\"><!ENTITY f ']v'><!ENTITY % p 'w]'>]><a><!--c-->{}&e;</a>"
-        for version, text, written, more, key in (("1.1", "v]&#x5D;", "v&#38;#93;&#38;#93;", "", "jing-brackets"), ("1.1", "v]", "v&#38;#93;", "<b/>", None),
-                                                  ("1.0", "v]", "v]", "", None), ("1.1", "]v", "]v", "", None)):
-            same = document.format(version, written, "").encode()
-            data = document.format(version, text, more).encode()
-            found = xml_differences.explanation(data, xml_run.Difference("events", said("valid"), said("valid")),
-                                                lambda changed, same=same: "valid" if changed == same else None)
-            self.assertEqual(found, key)
-
     def judged(self, program, *words):
         with tempfile.TemporaryDirectory() as room:
             run = subprocess.run([sys.executable, "-B", HERE / "xml_run.py", "--no-jing", "--seed", "test", "--program", program, "--found", room,

@@ -18,9 +18,6 @@ TEXTS = ("x", "1", "v w", " v  w ", "d", "\n", "\t", "\r\n", "\r", "  ", "]]", "
 REFERENCES = ("&lt;", "&amp;", "&gt;", "&quot;", "&apos;", "&#9;", "&#10;", "&#13;", "&#32;", "&#x41;", "&#38;", "&#60;", "&#x20AC;", "&#37;", "&#x1F600;")
 RARE = ("&u;", "&#0;", "&#x1;", "&#xD800;", "&#xFFFE;", "&#x110000;", "]]>", "<", "&", "\x01", "\x7f", "\x9f", "\ufffe", "&g", "&;", "& g;", "&#;", "&#x;",
         "&#X41;", "&#99999999999;")
-NEW_REFERENCES = ("&#1;", "&#x1F;", "&#38;#1;", "&#x85;", "&#x2028;", "&#127;", "&#x00009f;")  # of XML 1.1
-NEW_URIS = ("u&#1;", "u&#x001;", "u&#2;", "u&#127;", "u&#127;A", "u&#x7F;?", "&#38;#1;u")  # namespaces that only XML 1.1 has, some of them equal
-SHARE_1_1 = 0.1  # of the documents
 LATER = ("&#38;lt;", "&#38;g;", "&#60;b/>", "&#38;#60;", "&#60;", "&#38;", "&#x26;h;", "&#60;![CDATA[x]]>", "&#38;#9;", "&#38;#10;", "&#38;#13;", "&#38;#32;",
          "&#60;p:d/>", "&#60;b x='&#38;g;'/>")
 WRONG = ("<![INCLUDE[<!ENTITY g 'x'>]]>", "<![IGNORE[x]]>", "x", "&g;", "]", "<!ENTITY>", "<!ATTLIST>", "<!X>", "<b/>", "%u;", "<!ENTITY g>")
@@ -35,7 +32,7 @@ PIECES = ("<!DOCTYPE a [", "]>", "<!--", "-->", "<![CDATA[", "]]>", "<?p ", "?>"
           "'", '"', " ", "\n", "\r", "\t", "=", "x='1'", "xmlns='u'", "xmlns:p='u'", "p:x='1'", "<b/>", "<b>", "</b>", "<!ENTITY g 'x'>",
           "<!ENTITY % m '<!--x-->'>", "<!ATTLIST a x CDATA 'd'>", "<!ATTLIST a x NMTOKENS #IMPLIED>", "<!ELEMENT a ANY>", "<!NOTATION t SYSTEM 't'>",
           "SYSTEM 's.ent'", "<?xml version='1.0'?>", "<?xml version='1.1'?>", "standalone='yes'", "\x00", "\x01", "\ufffe", "\u0085", "a:b:c", ":", "#", "%",
-          "xmlns:p=''", "xmlns:q=''", "xmlns:q='u&#1;'", "&#1;", "\u2028", "\x7f",
+          "xmlns:p=''", "xmlns:q=''", "&#1;", "\u2028", "\x7f",
           "[", "]", "(", ")", "|", ",", "*", "?", " NDATA ", " NDATA t", " SYSTEM ", " PUBLIC ", "#FIXED ", "(#PCDATA|b)*", "(v|w)", "()", "''", '""', "--",
           "<!ENTITY g SYSTEM 's.ent'>", "<!ENTITY % m SYSTEM 's.mod'>", "<!ENTITY % m ''>%m;")
 
@@ -46,7 +43,6 @@ class Maker:
     def __init__(self, seed):
         self.chance = random.Random(seed)
         self.oddness = self.chance.choice((0, 0, 0.003, 0.01, 0.03))
-        self.is_1_1 = self.is_so(SHARE_1_1)
         self.general, self.parameter, self.notations = [], [], []
         self.declares_prefix = self.is_so(0.8)
 
@@ -57,8 +53,7 @@ class Maker:
         return self.chance.choice(choices)
 
     def blank(self, least=0):
-        ends = ("\u0085", "\u2028", "\r\u0085") if self.is_1_1 else ()
-        return "".join(self.pick(" ", " ", " ", "\n", "\t", "\r\n", "\r", *ends) for _ in range(max(least, self.pick(0, 0, 0, 0, 1, 2))))
+        return "".join(self.pick(" ", " ", " ", "\n", "\t", "\r\n", "\r") for _ in range(max(least, self.pick(0, 0, 0, 0, 1, 2))))
 
     def many(self, make, most, joined=""):
         return joined.join(make() for _ in range(self.chance.randrange(most + 1)))
@@ -69,8 +64,6 @@ class Maker:
     def reference(self):
         if self.is_so(self.oddness):
             return self.pick(*RARE)
-        if self.is_1_1 and self.is_so(0.05):
-            return self.pick(*NEW_REFERENCES)
         return f"&{self.pick(*self.general)};" if self.general and self.is_so(0.6) else self.pick(*REFERENCES)
 
     def quoted(self, text, quote=None):
@@ -89,10 +82,8 @@ class Maker:
         return f"{self.blank(1)}{name or self.name(ATTRIBUTES)}{self.blank()}={self.blank()}{value or self.value()}"
 
     def uri(self):
-        """A namespace to declare. XML 1.1 has more."""
-        if self.is_1_1 and self.is_so(0.4):
-            return self.pick(*NEW_URIS)
-        return self.pick("u", "v", "") if self.is_1_1 else self.pick("u", "v")
+        """A namespace to declare."""
+        return self.pick("u", "v")
 
     def declaration(self):
         return self.attribute(self.pick(*DECLARING), self.quoted(self.pick("u", "v", *URIS) if self.is_so(self.oddness) else self.uri()))
@@ -242,8 +233,7 @@ class Maker:
         return f"<!DOCTYPE{self.blank(1)}{self.pick('a', 'a', 'b', 'p:d')}{outside}{self.blank()}[{declared}]{self.blank()}>"
 
     def xml_declaration(self, encoding):
-        usual = "1.1" if self.is_1_1 else "1.0"
-        version = self.pick("1.1", "2.0", "1.2", "1.", "", "foo", "1.0 ") if self.is_so(self.oddness) else usual
+        version = self.pick("1.1", "2.0", "1.2", "1.", "", "foo", "1.0 ") if self.is_so(self.oddness) else "1.0"
         standalone = f" standalone={self.quoted(self.pick('yes', 'no'))}" if self.is_so(0.15) else ""
         named = f" encoding={self.quoted(encoding)}" if encoding else ""
         if self.is_so(self.oddness):
@@ -258,7 +248,7 @@ class Maker:
             declared = DECLARED.get(encoding, encoding)
             if encoding in ("utf-16", "utf-16-le", "utf-16-be", "utf-8-sig"):
                 declared = self.pick(declared, declared, declared, "")
-        head = self.xml_declaration(declared) if declared or self.is_1_1 or self.is_so(0.3) else ""
+        head = self.xml_declaration(declared) if declared or self.is_so(0.3) else ""
         doctype = self.subset() if self.is_so(0.85) else ""
         around = lambda: self.many(lambda: self.pick(self.comment, self.instruction, lambda: "\n", lambda: " ")(), 1)
         filler = f"<!--{'x' * self.pick(4_060, 8_150, 65_400, 65_500, 131_000)}{'y' * self.chance.randrange(150)}-->" if self.is_so(0.03) else ""

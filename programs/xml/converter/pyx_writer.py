@@ -64,7 +64,7 @@ class PyxWriter:
     def declaration(self, version, encoding, standalone):
         """Takes the XML declaration. In a document that says that it is standalone, expat drops nothing. It reads XML 1.1 as XML 1.0."""
         if version == "1.1":
-            self.refuse(self.here(), "XML 1.1")
+            self.refuse(self.here(), "XML 1.1 is not read")
         self.declarations.standalone = standalone == 1
         self.feed.declared(encoding)
 

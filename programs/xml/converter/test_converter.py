@@ -181,7 +181,7 @@ class UnreadDtd(unittest.TestCase):
             pyx(f'{declared}<!DOCTYPE a SYSTEM "d"><a x="&ext;"/>'.encode())
 
     def test_the_new_version(self):
-        with self.assertRaisesRegex(pyx_writer.OutsideProfile, "XML 1.1: outside the profile"):
+        with self.assertRaisesRegex(pyx_writer.OutsideProfile, "XML 1.1 is not read: outside the profile"):
             pyx(b'<?xml version="1.1"?><a/>')
 
     def test_what_is_not_loaded_is_reported(self):

@@ -147,7 +147,7 @@ static int32_t pass(const struct alone *alone, const struct log_reader *reader, 
         return library_start(schema, &alone->judge->room, ++*number, &event->name, reader->attributes, count);
     }
     if (event->kind == LOGGED_TEXT) {
-        return library_any_text(schema, &alone->judge->room, event->text);
+        return library_text(schema, event->text);
     }
     return event->kind == LOGGED_END ? rncv_events_end(schema, ++*number) : RNCV_DONE;
 }
@@ -159,7 +159,7 @@ static const struct element *own_of(const struct alone *alone) {
 /* Passes the text behind the last child, if there is one. */
 static int32_t pass_text(const struct alone *alone) {
     const struct bytes *text = &own_of(alone)->text;
-    return text->length == 0 ? RNCV_DONE : library_any_text(&alone->judge->schema, &alone->judge->room, (struct span){text->data, text->length});
+    return text->length == 0 ? RNCV_DONE : library_text(&alone->judge->schema, (struct span){text->data, text->length});
 }
 
 bool alone_find(const struct alone *alone, uint64_t *number) {

@@ -39,7 +39,6 @@ static void keep_default(struct declarations *declarations, const xmlChar *eleme
     struct namespace_default *kept = &declarations->defaults[declarations->default_count++];
     struct bytes whole = NO_BYTES;
     struct bytes unmarked = NO_BYTES;
-    enum mark_part part = MARK_NONE;
     const struct left_out *left = &declarations->feed->shortening.left;
     const struct span given = {(const char *)value, strlen((const char *)value)};
     if (has_tokens) {
@@ -48,11 +47,6 @@ static void keep_default(struct declarations *declarations, const xmlChar *eleme
         left_out_add(left, given, &whole);
     }
     add_unmarked((struct span){whole.data, whole.length}, &unmarked);
-    if (declarations->feed->spelling != NULL) {
-        spell_controls(&unmarked, 0, declarations->feed->spelling);
-    } else if (declarations->feed->decoding.is_1_1) {
-        unmarked.length = unmark_controls(unmarked.data, unmarked.length, &part);
-    }
     *kept = (struct namespace_default){strdup((const char *)element), strdup((const char *)name), strdup(bytes_text(&unmarked))};
     bool is_lost = whole.failed || unmarked.failed;
     declarations->feed->defaults += unmarked.length;

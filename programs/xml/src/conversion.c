@@ -303,8 +303,7 @@ void convert(const struct byte_source *source, const struct pyx_sink *sink, stru
                                 .instruction = take_instruction,
                                 .note = take_note,
                                 .flush = flush,
-                                .context = &writer,
-                                .reads_prefixes = sink->reads_prefixes};
+                                .context = &writer};
     read_events(source, &events, fault);
     /* what comes before a fault of the document may have another one, which is the first then */
     if (fault->kind <= FAULT_OUTSIDE) {

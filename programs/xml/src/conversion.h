@@ -20,7 +20,6 @@ struct pyx_sink {
     bool (*piece)(void *context, const struct piece *piece); /* takes a piece; false: it wants no more */
     void (*note)(void *context, struct place place, const char *what); /* takes a note: what is left out of the document without harm to its form */
     void *context;
-    bool reads_prefixes; /* as in struct event_sink: PYX has no line that takes a prefix back */
 };
 
 /* Converts a document. If there is no fault, the sink has received all of it. */

@@ -3,24 +3,20 @@
 static const char end[] = "?>";
 static const char spaces[] = "                                                                "; /* that are compared at once */
 
-/* The character of ASCII that the bytes are; 0: they are none that matters. Which bytes of EBCDIC are line ends depends on the encoding. */
+/* The character of ASCII that the bytes are; 0: they are none. */
 static char character_of(const char *bytes, struct code_unit unit) {
-    char code = bytes[unit.place];
     bool is_wide = false;
     for (size_t at = 0; at < unit.size; at++) {
         is_wide |= at != unit.place && bytes[at] != '\0';
     }
-    if (unit.is_ebcdic) {
-        return code == '\x40' ? ' ' : code == '\x05' ? '\t' : code == '\x6F' ? end[0] : code == '\x6E' ? end[1] : '\0';
-    }
-    return is_wide ? '\0' : code;
+    return is_wide ? '\0' : bytes[unit.place];
 }
 
 /* Writes spaces. */
 static void blank_out(char *bytes, size_t count, struct code_unit unit) {
     memset(bytes, 0, count * unit.size);
     for (size_t at = 0; at < count; at++) {
-        bytes[at * unit.size + unit.place] = unit.is_ebcdic ? '\x40' : ' ';
+        bytes[at * unit.size + unit.place] = ' ';
     }
 }
 
@@ -69,7 +65,7 @@ static size_t pass_spaces(struct declaration_blanks *blanks, struct span bytes) 
 }
 
 void leave_out_blanks(struct declaration_blanks *blanks, struct bytes *bytes, struct code_unit unit) {
-    bool has_spaces = unit.size == 1 && !unit.is_ebcdic;
+    bool has_spaces = unit.size == 1;
     size_t at = blanks->looked;
     while (at + unit.size <= bytes->length && !blanks->has_end) {
         at += has_spaces && blanks->is_long ? pass_spaces(blanks, (struct span){bytes->data + at, bytes->length - at - unit.size}) : 0;

@@ -10,11 +10,10 @@ enum {
     MOST_RUNS = 10      /* runs of blanks that a declaration may have */
 };
 
-/* How a declaration is written: a character is so many bytes, of which the one at this place is its code in ASCII or EBCDIC, and the others are zero. */
+/* How a declaration is written: a character is so many bytes, of which the one at this place is its code in ASCII, and the others are zero. */
 struct code_unit {
     size_t size;
     size_t place;
-    bool is_ebcdic;
 };
 
 /* What a run has: its line ends, and its characters behind the last one. */

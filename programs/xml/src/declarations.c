@@ -207,21 +207,12 @@ static void check_text(struct declarations *declarations, struct span text, bool
     }
 }
 
-/* Writes the long references in the text of an entity, and marks those to control characters. */
-static void mark(struct declarations *declarations, char *text, size_t length, bool is_parameter) {
-    struct feed *feed = declarations->feed;
-    write_long_references_in(text, length, !is_parameter);
-    if (feed->decoding.is_1_1 && mark_controls_in(text, length, !is_parameter)) {
-        feed_has_marks(feed);
-    }
-}
-
 void declarations_entity(struct declarations *declarations, bool is_parameter, xmlChar *text) {
     declarations_check_behind(declarations);
     if (text == NULL) {
         return;
     }
-    mark(declarations, (char *)text, strlen((const char *)text), is_parameter);
+    write_long_references_in((char *)text, strlen((const char *)text), !is_parameter);
     struct span span = {(const char *)text, strlen((const char *)text)};
     declarations->has_blank_references |= !is_parameter && has_blank_reference(span);
     check_text(declarations, span, is_parameter);
@@ -328,18 +319,19 @@ static void refuse_external(struct declarations *declarations, const xmlChar *sy
     bytes_free(&what);
 }
 
-/* Notes a code of an external entity that programs read differently, once a document. */
-static void note_doubt(struct declarations *declarations, bool has_doubt) {
-    if (has_doubt && !declarations->feed->has_told_doubt) {
-        declarations->feed->has_told_doubt = true;
-        declarations_note(declarations, declarations_place(declarations), "%s", BAD_CAST read_as_java);
+/* Notes that iconv has read an external entity, once a document. */
+static void note_iconv(struct declarations *declarations, struct bytes *encoding) {
+    if (encoding->length > 0 && !declarations->feed->has_told_iconv) {
+        declarations->feed->has_told_iconv = true;
+        declarations_note(declarations, declarations_place(declarations), read_by_iconv, BAD_CAST bytes_text(encoding));
     }
+    bytes_free(encoding);
 }
 
 /* Counts and checks the text of an external entity. */
 static void take_loaded(struct declarations *declarations, const struct bytes *text, bool is_parameter) {
     declarations->loaded += text->length;
-    mark(declarations, text->data, text->length, is_parameter);
+    write_long_references_in(text->data, text->length, !is_parameter);
     check_text(declarations, (struct span){text->data, text->length}, is_parameter);
     if (declarations->loaded > part_of_memory(declarations)) {
         declarations_refuse_part(declarations, "external entities have more than %s bytes");
@@ -364,17 +356,17 @@ static struct twin *load(struct declarations *declarations, const xmlEntity *ent
     struct bytes text = NO_BYTES;
     struct bytes path = NO_BYTES;
     struct fault why = NO_FAULT;
-    bool has_doubt = false;
+    struct bytes encoding = NO_BYTES;
     struct twin *twin = declarations_twin(declarations);
     if (entity->name == NULL) {
         bytes_add_byte(&text, '\n'); /* of the external DTD libxml2 would read a second mark or declaration at the start */
     }
-    const struct external external = {entity->ExternalID, entity->URI, declarations->feed->decoding.is_1_1};
-    bool is_read = twin != NULL && external_read(&external, &text, &path, &has_doubt, &why);
+    const struct external external = {entity->ExternalID, entity->URI};
+    bool is_read = twin != NULL && external_read(&external, &text, &path, &encoding, &why);
     if (twin != NULL && !is_read) {
         refuse_external(declarations, entity->SystemID, &why);
     }
-    note_doubt(declarations, has_doubt);
+    note_iconv(declarations, &encoding);
     if (is_read) {
         take_loaded(declarations, &text, type == XML_INTERNAL_PARAMETER_ENTITY);
         is_read = make_internal(&twin->entity, entity, &text, &path);

@@ -4,16 +4,10 @@
 
 enum {
     FEWEST_BYTES = 4,  /* that show how characters are written */
-    PLAIN_BYTES = 128, /* that are looked at together */
-    DELETE = 0x7F,     /* the first of the control characters that end before .. */
-    FIRST_BEHIND_CONTROLS = 0xA0,
-    NEXT_LINE = 0x85,
-    LINE_SEPARATOR = 0x2028
+    PLAIN_BYTES = 128  /* that are looked at together */
 };
 
-static const char NEXT_LINE_BEGINS = '\xC2'; /* in UTF-8 */
-
-const char read_as_java[] = "a code of this encoding is read as Java or browsers read it; other programs read another character, or none";
+const char read_by_iconv[] = "the encoding '%s' is read by iconv: other programs may read other characters";
 
 static const char not_as_declared[] = "malformed XML: the document is not in the encoding that its declaration names";
 
@@ -33,9 +27,9 @@ static size_t mark_of(const struct bytes *first, enum family *family) {
         size_t length;
         char bytes[5];
     } starts[] = {
-        {FAMILY_UTF_32_LITTLE, 4, 4, "\xFF\xFE\0\0"}, {FAMILY_UTF_32_BIG, 4, 4, "\0\0\xFE\xFF"}, {FAMILY_UTF_8, 3, 3, "\xEF\xBB\xBF"},
-        {FAMILY_UTF_16_LITTLE, 2, 2, "\xFF\xFE"},     {FAMILY_UTF_16_BIG, 2, 2, "\xFE\xFF"},     {FAMILY_UTF_32_LITTLE, 0, 4, "<\0\0\0"},
-        {FAMILY_UTF_32_BIG, 0, 4, "\0\0\0<"},         {FAMILY_UTF_16_LITTLE, 0, 4, "<\0?\0"},    {FAMILY_UTF_16_BIG, 0, 4, "\0<\0?"},
+        {FAMILY_UTF_32, 4, 4, "\xFF\xFE\0\0"},    {FAMILY_UTF_32, 4, 4, "\0\0\xFE\xFF"},          {FAMILY_UTF_8, 3, 3, "\xEF\xBB\xBF"},
+        {FAMILY_UTF_16_LITTLE, 2, 2, "\xFF\xFE"},  {FAMILY_UTF_16_BIG, 2, 2, "\xFE\xFF"},         {FAMILY_UTF_32, 0, 4, "<\0\0\0"},
+        {FAMILY_UTF_32, 0, 4, "\0\0\0<"},         {FAMILY_UTF_16_LITTLE, 0, 4, "<\0?\0"},        {FAMILY_UTF_16_BIG, 0, 4, "\0<\0?"},
         {FAMILY_EBCDIC, 0, 4, "\x4C\x6F\xA7\x94"},
     };
     for (size_t at = 0; at < sizeof starts / sizeof *starts; at++) {
@@ -48,128 +42,87 @@ static size_t mark_of(const struct bytes *first, enum family *family) {
     return 0;
 }
 
-/* The name that iconv has for the encoding of a family's declaration; NULL: bytes of ASCII. */
-static const char *encoding_of(enum family family) {
-    static const char *const names[] = {NULL, NULL, "UTF-16LE", "UTF-16BE", "UTF-32LE", "UTF-32BE", "CP037"};
-    return names[family];
+static bool is_utf_16(enum family family) {
+    return family == FAMILY_UTF_16_LITTLE || family == FAMILY_UTF_16_BIG;
 }
 
-/* Whether a document of UTF-16 or UTF-32 may declare the encoding. */
-static bool fits_wide(enum family family, struct span encoding) {
-    bool is_little = family == FAMILY_UTF_16_LITTLE || family == FAMILY_UTF_32_LITTLE;
-    if (family == FAMILY_UTF_16_LITTLE || family == FAMILY_UTF_16_BIG) {
-        return is_named(encoding, "utf-16") || is_named(encoding, is_little ? "utf-16le" : "utf-16be") || is_named(encoding, "iso-10646-ucs-2");
-    }
-    return is_named(encoding, "utf-32") || is_named(encoding, is_little ? "utf-32le" : "utf-32be") || is_named(encoding, "iso-10646-ucs-4");
+/* Whether a document of UTF-16 may declare the encoding. */
+static bool fits_utf_16(enum family family, struct span encoding) {
+    bool is_little = family == FAMILY_UTF_16_LITTLE;
+    return is_named(encoding, "utf-16") || is_named(encoding, is_little ? "utf-16le" : "utf-16be") || is_named(encoding, "iso-10646-ucs-2");
 }
 
 static bool is_utf_8_name(struct span encoding) {
     return is_named(encoding, "utf-8") || is_named(encoding, "utf8");
 }
 
-static void not_served(struct decoding *decoding, struct span encoding) {
-    fault_set(&decoding->fault, FAULT_OUTSIDE, (struct place){0, 0}, "the encoding '%.*s' is not served", (int)encoding.length, encoding.data);
+/* Refuses an encoding that is not read. */
+static void not_read(struct decoding *decoding, struct span encoding) {
+    fault_set(&decoding->fault, FAULT_OUTSIDE, (struct place){0, 0},
+              "the encoding '%.*s' is not read: outside the profile; iconv -f .. -t UTF-8 may write it as UTF-8", (int)encoding.length, encoding.data);
 }
 
-/* Whether a declaration is the same in two encodings. A line end of one may be a next line in the other. */
-static bool is_same(struct span declaration, struct span other) {
-    size_t at = 0;
-    for (size_t position = 0; position < declaration.length; position++, at++) {
-        bool is_next_line = declaration.data[position] == '\n' && at + 1 < other.length && other.data[at] == NEXT_LINE_BEGINS;
-        at += is_next_line;
-        if (!is_next_line && (at >= other.length || other.data[at] != declaration.data[position])) {
-            return false;
-        }
-    }
-    return at == other.length;
-}
-
-/* Refuses a document whose XML declaration, which was read as cp037, is not the same in the encoding that it names. */
-static void check_declared(struct decoding *decoding, const char *encoding, struct span declaration) {
-    struct transcoder transcoder;
-    struct bytes text = NO_BYTES;
-    bool is_open = transcoder_open_ebcdic(&transcoder, encoding);
-    if (!is_open || transcoder_add(&transcoder, decoding->first.data, declaration.length, &text) == DECODED_NO_MEMORY) {
-        out_of_memory(decoding);
-    } else if (!is_same(declaration, (struct span){text.data, text.length})) {
-        refuse(decoding, FAULT_MALFORMED, not_as_declared);
-    }
-    transcoder_close(&transcoder);
-    bytes_free(&text);
-}
-
-/* Opens the transcoder for the encoding that the document declares. The bytes of its declaration are ASCII, or EBCDIC. */
+/* Opens the transcoder for the encoding that the document declares. The declaration is in ASCII, and has to be the same in that encoding. */
 static void open_declared(struct decoding *decoding, struct span encoding, struct span declaration) {
-    char name[64];
-    static const char *const wide[] = {"utf-16", "utf-16le", "utf-16be", "iso-10646-ucs-2"};
-    for (size_t at = 0; at < sizeof wide / sizeof *wide; at++) {
-        if (is_named(encoding, wide[at])) {
-            refuse(decoding, FAULT_MALFORMED, not_as_declared);
-            return;
-        }
-    }
-    if (encoding.length >= sizeof name) {
-        not_served(decoding, encoding);
+    bool is_same = false;
+    if (encoding.length >= MOST_ENCODING) {
+        not_read(decoding, encoding);
         return;
     }
-    memcpy(name, encoding.data, encoding.length);
-    name[encoding.length] = '\0';
-    bool is_open = decoding->family == FAMILY_EBCDIC ? transcoder_open_ebcdic(&decoding->transcoder, name) : transcoder_open(&decoding->transcoder, name);
-    decoding->is_transcoded = is_open;
-    if (is_open && decoding->family == FAMILY_EBCDIC) {
-        check_declared(decoding, name, declaration);
-    } else if (decoding->transcoder.moves_ascii) {
+    memcpy(decoding->encoding, encoding.data, encoding.length);
+    if (!transcoder_open(&decoding->transcoder, decoding->encoding)) {
+        not_read(decoding, encoding);
+    } else if (!transcoder_keeps(&decoding->transcoder, declaration, &is_same)) {
+        out_of_memory(decoding);
+    } else if (!is_same) {
         refuse(decoding, FAULT_MALFORMED, not_as_declared);
-    } else if (!is_open) {
-        not_served(decoding, encoding);
+    } else {
+        decoding->is_transcoded = true;
+        decoding->is_by_iconv = decoding->transcoder.encoding == ENCODING_OF_ICONV;
     }
 }
 
-static bool is_1_1(const struct xml_declaration *declaration) {
-    return declaration->is_there && is_named(declaration->version, "1.1");
+/* Refuses UTF-16 that has neither a byte order mark nor a declaration that names it, or another declaration. */
+static void check_utf_16(struct decoding *decoding, struct span encoding, bool is_marked) {
+    if (encoding.data == NULL && !is_marked) {
+        refuse(decoding, FAULT_MALFORMED, "malformed XML: UTF-16 without a byte order mark, which its declaration does not name");
+    } else if (encoding.data != NULL && !fits_utf_16(decoding->family, encoding)) {
+        refuse(decoding, FAULT_MALFORMED, not_as_declared);
+    }
 }
 
-/* Sets the encoding, after the declaration was read. UTF-16 and UTF-32 have a byte order mark, or the declaration names them. */
+/* Sets the encoding, after the declaration was read. */
 static void set_encoding(struct decoding *decoding, const struct xml_declaration *declaration, const char *text, bool is_marked) {
     struct span encoding = declaration->encoding;
-    struct span whole = {text, declaration->length};
-    const char *wide = encoding_of(decoding->family);
     if (declaration->wrong != NULL) {
         fault_set(&decoding->fault, FAULT_MALFORMED, (struct place){0, 0}, "malformed XML: %s", declaration->wrong);
-    } else if (decoding->is_external && !decoding->is_1_1 && is_1_1(declaration)) {
-        refuse(decoding, FAULT_OUTSIDE, "it is XML 1.1, and the document is not");
-    } else if (decoding->family == FAMILY_EBCDIC) {
-        open_declared(decoding, encoding.data == NULL ? (struct span){"cp037", 5} : encoding, whole);
-    } else if (wide != NULL && encoding.data == NULL && !is_marked) {
-        fault_set(&decoding->fault, FAULT_MALFORMED, (struct place){0, 0},
-                  "malformed XML: %.6s without a byte order mark, which its declaration does not name", wide);
-    } else if (wide != NULL && encoding.data != NULL && !fits_wide(decoding->family, encoding)) {
-        refuse(decoding, FAULT_MALFORMED, not_as_declared);
-    } else if (wide != NULL) {
-        decoding->is_transcoded = transcoder_open_any(&decoding->transcoder, wide);
-        if (!decoding->is_transcoded) {
-            not_served(decoding, (struct span){wide, strlen(wide)});
-        }
+    } else if (declaration->is_there && is_named(declaration->version, "1.1")) {
+        refuse(decoding, FAULT_OUTSIDE, "outside the profile: XML 1.1 is not read");
+    } else if (is_utf_16(decoding->family)) {
+        check_utf_16(decoding, encoding, is_marked);
     } else if (encoding.data != NULL && !is_utf_8_name(encoding)) {
-        open_declared(decoding, encoding, whole); /* it counts more than a byte order mark of UTF-8, as for jing */
+        open_declared(decoding, encoding, (struct span){text, declaration->length}); /* it counts more than a byte order mark of UTF-8, as for jing */
     }
+}
+
+/* Begins to decode UTF-16. */
+static void open_utf_16(struct decoding *decoding) {
+    decoding->transcoder = (struct transcoder)NO_TRANSCODER;
+    decoding->transcoder.encoding = decoding->family == FAMILY_UTF_16_LITTLE ? ENCODING_UTF_16_LITTLE : ENCODING_UTF_16_BIG;
+    decoding->is_transcoded = true;
 }
 
 /* Adds the start of the document to `text`, in ASCII where its family has ASCII. False: out of memory. */
-static bool add_start(const struct decoding *decoding, size_t mark, struct bytes *text) {
-    const char *encoding = encoding_of(decoding->family);
-    struct transcoder transcoder;
-    if (encoding == NULL) {
-        bytes_add(text, decoding->first.data + mark, decoding->first.length - mark);
+static bool add_start(struct decoding *decoding, size_t mark, struct bytes *text) {
+    struct span start = {decoding->first.data + mark, decoding->first.length - mark};
+    if (!is_utf_16(decoding->family)) {
+        bytes_add(text, start.data, start.length);
         return !text->failed;
     }
-    bool is_ebcdic = decoding->family == FAMILY_EBCDIC;
-    if (is_ebcdic ? transcoder_open_ebcdic(&transcoder, encoding) : transcoder_open_any(&transcoder, encoding)) {
-        bool is_good = transcoder_add(&transcoder, decoding->first.data + mark, decoding->first.length - mark, text) != DECODED_NO_MEMORY;
-        transcoder_close(&transcoder);
-        return is_good;
-    }
-    return !text->failed;
+    open_utf_16(decoding);
+    bool is_good = transcoder_add(&decoding->transcoder, start.data, start.length, text);
+    bytes_free(&decoding->transcoder.waiting);
+    return is_good;
 }
 
 /* Whether the text may be the start of an XML declaration, and is too short to tell. */
@@ -180,7 +133,7 @@ static bool may_begin(const struct bytes *text) {
 
 /* Leaves out blanks of the declaration in the first bytes, which begins behind the mark. */
 static void shorten_declaration(struct decoding *decoding, size_t mark) {
-    static const struct code_unit units[] = {{1, 0, false}, {1, 0, false}, {2, 0, false}, {2, 1, false}, {4, 0, false}, {4, 3, false}, {1, 0, true}};
+    static const struct code_unit units[] = {{1, 0}, {1, 0}, {2, 0}, {2, 1}};
     if (!decoding->is_declared) {
         decoding->is_declared = true;
         decoding->blanks.looked = mark;
@@ -198,7 +151,6 @@ static void find_declared(struct decoding *decoding, size_t mark, bool is_end) {
         decoding->is_known = is_end || !declaration.is_there || declaration.is_whole || decoding->blanks.has_end; /* else it has bytes of no character */
         if (decoding->is_known) {
             set_encoding(decoding, &declaration, text.data, mark > 0);
-            decoding->is_1_1 |= is_1_1(&declaration);
             decoding->dropped = decoding->is_external ? declaration.length : 0;
             bytes_cut_front(&decoding->first, mark);
         } else {
@@ -212,6 +164,11 @@ static void find_declared(struct decoding *decoding, size_t mark, bool is_end) {
 static void find_encoding(struct decoding *decoding, bool is_end) {
     if (decoding->first.length >= FEWEST_BYTES || is_end) {
         size_t mark = mark_of(&decoding->first, &decoding->family);
+        if (decoding->family == FAMILY_UTF_32 || decoding->family == FAMILY_EBCDIC) {
+            const char *name = decoding->family == FAMILY_UTF_32 ? "UTF-32" : "EBCDIC";
+            not_read(decoding, (struct span){name, strlen(name)});
+            return;
+        }
         if (decoding->is_declared) {
             shorten_declaration(decoding, mark);
         }
@@ -283,28 +240,6 @@ static size_t plain_length(const char *bytes, size_t length) {
     return at;
 }
 
-/* The same by the rules of XML 1.1, for which a delete is no plain character. */
-static size_t plain_length_1_1(const char *bytes, size_t length) {
-    size_t at = 0;
-    while (at < length && is_plain(bytes[at]) && bytes[at] != DELETE) {
-        at++;
-    }
-    return at;
-}
-
-/* Adds a character of other than one byte, or a delete, by the rules of XML 1.1 (2.2 and 2.11). */
-static void add_code_1_1(struct decoding *decoding, unsigned code, struct span character, struct bytes *text) {
-    bool is_line_end = code == NEXT_LINE || code == LINE_SEPARATOR;
-    if (!is_line_end && code >= DELETE && code < FIRST_BEHIND_CONTROLS) {
-        refuse(decoding, FAULT_MALFORMED, "malformed XML: a control character that XML 1.1 allows only by a reference");
-    } else if (!is_line_end) {
-        bytes_add(text, character.data, character.length);
-    } else if (code == LINE_SEPARATOR || !decoding->after_return) {
-        bytes_add_byte(text, '\n');
-    }
-    decoding->after_return = false;
-}
-
 /* Adds the character at the start of the bytes, which is no plain one. Returns how many bytes it has; 0: it is not whole, or there is a fault. */
 static size_t add_character(struct decoding *decoding, const char *bytes, size_t length, struct bytes *text) {
     if (bytes[0] == '\r') {
@@ -323,28 +258,17 @@ static size_t add_character(struct decoding *decoding, const char *bytes, size_t
                                                                     : "malformed XML: bytes that are no character of UTF-8");
         return 0;
     }
-    if (decoding->is_1_1) {
-        add_code_1_1(decoding, code, (struct span){bytes, size}, text);
-    } else {
-        bytes_add(text, bytes, size);
-    }
+    bytes_add(text, bytes, size);
     return size;
-}
-
-/* Takes what belongs to a carriage return before the bytes. Returns how many bytes that is. In XML 1.1 a next line may belong to it, which is not plain. */
-static size_t take_after_return(struct decoding *decoding, const char *bytes) {
-    decoding->after_return = decoding->is_1_1 && bytes[0] == NEXT_LINE_BEGINS;
-    return bytes[0] == '\n';
 }
 
 /* Adds UTF-8 to the text. Returns how many bytes were taken: all but the start of a character at the end, unless there is a fault. */
 static size_t add_text(struct decoding *decoding, const char *bytes, size_t length, struct bytes *text) {
     size_t at = 0;
     while (at < length && decoding->fault.kind == FAULT_NONE) {
-        if (decoding->after_return) {
-            at += take_after_return(decoding, bytes + at);
-        }
-        size_t plain = decoding->is_1_1 ? plain_length_1_1(bytes + at, length - at) : plain_length(bytes + at, length - at);
+        at += decoding->after_return && bytes[at] == '\n';
+        decoding->after_return = false;
+        size_t plain = plain_length(bytes + at, length - at);
         bytes_add(text, bytes + at, plain);
         at += plain;
         if (at < length) {
@@ -379,17 +303,6 @@ static void add_piece(struct decoding *decoding, const char *bytes, size_t lengt
     }
 }
 
-/* Adds what the transcoder has given, and finds where the first code is that other programs read otherwise. */
-static void add_decoded(struct decoding *decoding, struct bytes *text) {
-    size_t before = decoding->transcoder.has_doubt && !decoding->has_doubt ? decoding->transcoder.doubt_at : 0;
-    add_piece(decoding, decoding->decoded.data, before, text);
-    if (decoding->transcoder.has_doubt && !decoding->has_doubt && decoding->fault.kind == FAULT_NONE) {
-        decoding->has_doubt = true;
-        decoding->doubt_at = text->length;
-    }
-    add_piece(decoding, decoding->decoded.data + before, decoding->decoded.length - before, text);
-}
-
 /* Adds bytes of the encoding, which is known. */
 static void add_bytes(struct decoding *decoding, const char *bytes, size_t length, struct bytes *text) {
     if (!decoding->is_transcoded) {
@@ -397,13 +310,10 @@ static void add_bytes(struct decoding *decoding, const char *bytes, size_t lengt
         return;
     }
     bytes_clear(&decoding->decoded);
-    enum decoded decoded = transcoder_add(&decoding->transcoder, bytes, length, &decoding->decoded);
-    add_decoded(decoding, text);
-    if (decoded == DECODED_NO_MEMORY) {
+    if (!transcoder_add(&decoding->transcoder, bytes, length, &decoding->decoded)) {
         out_of_memory(decoding);
-    } else if (decoded == DECODED_DOUBTFUL) {
-        refuse(decoding, FAULT_OUTSIDE, "a character that programs read in different ways in this encoding: outside the profile");
     }
+    add_piece(decoding, decoding->decoded.data, decoding->decoded.length, text);
 }
 
 /* Adds the first bytes, once the encoding is known. */
@@ -443,11 +353,10 @@ void decoding_end(struct decoding *decoding, struct bytes *text) {
     }
     if (decoding->fault.kind == FAULT_NONE && decoding->is_transcoded) {
         bytes_clear(&decoding->decoded);
-        enum decoded decoded = transcoder_end(&decoding->transcoder, &decoding->decoded);
-        add_decoded(decoding, text);
-        if (decoded == DECODED_NO_MEMORY) {
+        if (!transcoder_end(&decoding->transcoder, &decoding->decoded)) {
             out_of_memory(decoding);
         }
+        add_piece(decoding, decoding->decoded.data, decoding->decoded.length, text);
     }
     if (decoding->fault.kind == FAULT_NONE && decoding->begun_length > 0) {
         refuse(decoding, FAULT_MALFORMED, "malformed XML: bytes that are no character of UTF-8");

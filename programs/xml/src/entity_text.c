@@ -1,6 +1,5 @@
 #include "entity_text.h"
 
-#include "controls.h"
 #include "xml_names.h"
 
 #include <stdlib.h>
@@ -195,15 +194,12 @@ static long predefined_code(struct span name) {
     return code;
 }
 
-size_t entity_text_character(struct span text, bool has_marks, struct bytes *to) {
+size_t entity_text_character(struct span text, struct bytes *to) {
     struct reference reference = reference_at(text);
     if (reference.length == 0) {
         return 0;
     }
     long code = reference.is_code ? reference.code : predefined_code((struct span){text.data + 1, reference.length - 2});
-    if (has_marks && add_control_mark(code, to)) {
-        return reference.length;
-    }
     if (!is_plain_code(code)) {
         return 0;
     }
@@ -222,10 +218,10 @@ static bool is_name(struct span text) {
     return is_good;
 }
 
-size_t entity_text_kept(struct span text, bool has_marks, struct bytes *to) {
+size_t entity_text_kept(struct span text, struct bytes *to) {
     struct reference reference = reference_at(text);
     if (reference.length == 0 || reference.is_code) {
-        return entity_text_character(text, has_marks, to);
+        return entity_text_character(text, to);
     }
     if (!is_name((struct span){text.data + 1, reference.length - 2})) {
         return 0;
@@ -252,7 +248,7 @@ bool entity_text_decoded(struct span text, struct bytes *to) {
             bytes_add_byte(to, ' ');
             length = 1;
         } else if (length == 0) {
-            length = entity_text_character(text, false, to);
+            length = entity_text_character(text, to);
             is_good = length > 0;
         }
         text = span_from(text, length);

@@ -42,17 +42,15 @@ void entity_text_value(struct span text, const struct entity_source *source, str
 /* Adds the text of an entity for a value of the document itself: libxml2 gets a mark for each reference to a blank. No document has the marks. */
 void entity_text_marked(struct span text, struct bytes *to);
 
-/* Adds the character that the reference at the start of a text gives, by a number or as one of the five that each document has. `has_marks`: the document is
- * XML 1.1, and the mark of controls.h is added for a control character or a delete. Returns the length of the reference; 0: there is none, it is one to an
- * entity of the document, or to a control character without marks. */
-size_t entity_text_character(struct span text, bool has_marks, struct bytes *to);
+/* Adds the character that the reference at the start of a text gives, by a number or as one of the five that each document has. Returns the length of the
+ * reference; 0: there is none, or it is one to an entity of the document. */
+size_t entity_text_character(struct span text, struct bytes *to);
 
 /* Adds what the reference at the start of a text is in the literal of an entity: a character by its number, or the reference as it is. Returns its length; 0:
  * there is none, or it breaks XML. */
-size_t entity_text_kept(struct span text, bool has_marks, struct bytes *to);
+size_t entity_text_kept(struct span text, struct bytes *to);
 
-/* Adds a text as the value of an attribute. It may have marks of controls.h: a delete by a reference is the beginning of one. False: it has a reference that is
- * none to a character, or begins markup. */
+/* Adds a text as the value of an attribute. False: it has a reference that is none to a character, or begins markup. */
 bool entity_text_decoded(struct span text, struct bytes *to);
 
 /* Whether a value has marks. */

@@ -11,7 +11,6 @@
 #include "parser_words.h"
 #include "tag_names.h"
 #include "wide_names.h"
-#include "withdrawn.h"
 #include "xml_names.h"
 
 #include <libxml/SAX2.h>
@@ -31,7 +30,6 @@ struct reader {
     struct feed feed;
     char mark[LEFT_OUT_MARK + 1]; /* of a long entity that is declared */
     struct declarations declarations;
-    struct withdrawn withdrawn;
     struct event_sink sink;
     struct fault *fault;
     struct start_event start; /* the last one, with what is open now as its depth */
@@ -39,17 +37,13 @@ struct reader {
     const xmlChar *prefix;    /* .. and its prefix, if it is not usual, as libxml2 has them */
     struct event_attribute *attributes; /* room for those of a tag */
     size_t attribute_capacity;
-    struct bytes values; /* those of its attributes that have other characters in the place of marks */
-    struct bytes piece;  /* of a text that has them */
-    enum mark_part part; /* what was read of a mark in it */
-    uint64_t mark_at;    /* where the reference of the mark begins in the document, of which the last piece had the first byte */
+    struct bytes values; /* those of its attributes that have blanks in the place of marks */
     struct event_declaration *declared; /* room for its declarations */
     size_t declared_capacity;
     bool has_bad_name;   /* the tag that is being read has a name that is no QName */
     bool has_double;     /* two of its attributes have one name */
     bool has_undeclared; /* a name of it has a prefix that is not declared */
-    const xmlParserCtxt *tag_parser; /* what has read a tag that takes a prefix back */
-    bool is_unusual;     /* the next tag may be such a one, or elements may declare namespaces by default */
+    bool is_unusual;     /* the next tag has to be looked at, or elements may declare namespaces by default */
     bool is_empty;       /* the end of the last start tag is in it */
     bool has_marked_uri; /* a namespace had marks */
     bool has_passed;     /* the last declaration, or one before, had an error that was passed */
@@ -59,8 +53,6 @@ struct reader {
     struct parser_memory memory;
     struct known_names names; /* at the end, since most of it is not set at first */
 };
-
-static const char control_character[] = "a control character by a reference, which XML 1.1 has: outside the profile";
 
 /* The reader of this thread's document. libxml2 reports some errors without it. */
 static _Thread_local struct reader *current = NULL;
@@ -173,15 +165,6 @@ static struct position other_position(struct reader *reader, size_t length) {
     return (struct position){begin, has_blanks ? length : 0};
 }
 
-/* Whether the receiver takes a text or value with a control character. False: there is a fault. */
-static bool takes_control(struct reader *reader, struct position position, struct span text) {
-    const char *why = reader->sink.control == NULL ? control_character : reader->sink.control(reader->sink.context, text);
-    if (why != NULL) {
-        fault_set(reader->fault, FAULT_OUTSIDE, place_of(position), "%s", why);
-    }
-    return is_good(reader);
-}
-
 /* Hands a piece of text to the receiver. */
 static void hand_text(struct reader *reader, struct position position, struct span text, bool has_raw) {
     reader->sink.text(reader->sink.context, position, text, has_raw);
@@ -206,55 +189,6 @@ static OUT_OF_LINE void take_any_text(struct reader *reader, const xmlChar *text
     }
 }
 
-/* Finds the position of a piece of which a part is a mark, or of one. */
-static struct position marked_position(struct reader *reader, const xmlChar *text, size_t length) {
-    bool has_raw = is_raw(reader, text);
-    struct position position = has_raw ? raw_position(reader, text, length) : other_position(reader, length);
-    uint64_t last = position.at + length - 1;
-    if (has_raw && reader->part == MARK_BEGUN) {
-        position.at = reader->mark_at;
-    }
-    reader->mark_at = last;
-    return position;
-}
-
-/* Whether the piece is a delete by a reference, which begins a mark. Then the text stays where the reference begins. */
-static bool begins_mark(struct reader *reader, const xmlChar *text, size_t length) {
-    bool is_begin = length == 1 && reader->part == MARK_NONE && !is_raw(reader, text);
-    if (is_begin) {
-        reader->part = MARK_BEGUN;
-        reader->mark_at = feed_settle(&reader->feed, feed_offset(&reader->feed));
-    }
-    return is_begin;
-}
-
-/* Takes a piece of text in a document with marks for control characters. libxml2 may end a piece in a mark. */
-static void take_marked_text(void *context, const xmlChar *text, int size) {
-    struct reader *reader = context;
-    struct span span = {(const char *)text, size > 0 ? (size_t)size : 0};
-    if (!is_good(reader)) {
-        return;
-    }
-    if (reader->part == MARK_NONE && !has_control_marks(span)) {
-        take_any_text(reader, text, span.length);
-        return;
-    }
-    if (begins_mark(reader, text, span.length)) {
-        return;
-    }
-    struct position position = marked_position(reader, text, span.length);
-    bytes_clear(&reader->piece);
-    bytes_add(&reader->piece, span.data, span.length);
-    if (reader->piece.failed) {
-        out_of_memory(reader);
-        return;
-    }
-    span = (struct span){reader->piece.data, unmark_controls(reader->piece.data, span.length, &reader->part)};
-    if (span.length > 0 && (!has_controls(span) || takes_control(reader, position, span))) {
-        hand_text(reader, position, span, false);
-    }
-}
-
 /* Takes a piece of text. This is called most often: if the piece is usual, no registers are saved, and nothing is called before the receiver. */
 static void take_text(void *context, const xmlChar *text, int size) {
     struct reader *reader = context;
@@ -275,11 +209,7 @@ static void take_section(void *context, const xmlChar *text, int size) {
     struct reader *reader = context;
     bool is_part = section_is_part(&reader->feed.section, feed_offset(&reader->feed), &reader->feed.skew);
     feed_check_inclusion(&reader->feed);
-    if (reader->feed.controls.has_marks) {
-        take_marked_text(context, text, size);
-    } else {
-        take_text(context, text, size);
-    }
+    take_text(context, text, size);
     if (feed_is_read(&reader->feed)) {
         section_begins_again(&reader->feed.section, is_part, &reader->feed.skew);
     }
@@ -319,23 +249,13 @@ static bool has_room(struct reader *reader, void **items, size_t count, size_t *
     return true;
 }
 
-/* Adds a value with blanks and control characters, or their spelling, in the place of their marks. False: it has no marks, and is not added. */
-static bool unmark(const struct reader *reader, struct span value, const char *spelling, struct bytes *to) {
-    bool has_blanks = reader->declarations.has_marks && has_blank_marks(value);
-    bool is_marked = reader->feed.controls.has_marks && has_control_marks(value);
-    size_t begin = to->length;
-    enum mark_part part = MARK_NONE;
-    if (has_blanks) {
+/* Adds a value with blanks in the place of their marks. False: it has no marks, and is not added. */
+static bool unmark(const struct reader *reader, struct span value, struct bytes *to) {
+    bool is_marked = reader->declarations.has_marks && has_blank_marks(value);
+    if (is_marked) {
         add_unmarked(value, to);
-    } else if (is_marked) {
-        bytes_add(to, value.data, value.length);
     }
-    if (is_marked && spelling != NULL && !to->failed) {
-        spell_controls(to, begin, spelling);
-    } else if (is_marked && !to->failed) {
-        to->length = begin + unmark_controls(to->data + begin, to->length - begin, &part);
-    }
-    return has_blanks || is_marked;
+    return is_marked;
 }
 
 /* Whether the blanks of an attribute's value are no part of it as they are: it is declared with another type than CDATA (XML 1.0, 3.3.3). */
@@ -358,7 +278,7 @@ static bool add_uri(const struct reader *reader, struct span uri, bool has_token
     if (is_part) {
         uri = (struct span){whole.data, whole.length};
     }
-    bool is_marked = unmark(reader, uri, reader->feed.spelling, to);
+    bool is_marked = unmark(reader, uri, to);
     if (is_part && !is_marked) {
         *to = whole;
         return true;
@@ -520,11 +440,6 @@ static const struct event_name *name_of(struct reader *reader, const xmlChar *lo
     return name;
 }
 
-/* Whether values of attributes may have marks. */
-static bool may_have_marks(const struct reader *reader) {
-    return reader->declarations.has_marks || reader->feed.controls.has_marks;
-}
-
 /* Makes room for the values that have marks, so that they stay where they are. */
 static void clear_values(struct reader *reader, int count, const xmlChar **attributes) {
     size_t length = 0;
@@ -537,22 +452,14 @@ static void clear_values(struct reader *reader, int count, const xmlChar **attri
     }
 }
 
-/* The value, which has no marks. If the receiver takes no control characters in it, there is a fault. */
-static struct span taken(struct reader *reader, struct span value) {
-    if (has_controls(value)) {
-        takes_control(reader, reader->start.position, value);
-    }
-    return value;
-}
-
 /* The value without marks. One of which libxml2 has a part is left: it is written whole before. */
 static struct span unmarked(struct reader *reader, struct span value) {
     const struct left_out *left = &reader->feed.shortening.left;
     const struct bytes *values = &reader->values;
     size_t begin = values->length;
-    bool is_part = may_have_marks(reader) && has_left_out(left) && left_out_is_in(left, value);
-    bool is_marked = !is_part && unmark(reader, value, NULL, &reader->values);
-    return is_marked ? taken(reader, (struct span){values->data + begin, values->length - begin}) : value;
+    bool is_part = reader->declarations.has_marks && has_left_out(left) && left_out_is_in(left, value);
+    bool is_marked = !is_part && unmark(reader, value, &reader->values);
+    return is_marked ? (struct span){values->data + begin, values->length - begin} : value;
 }
 
 /* How many bytes the values of the tag have as a whole of which libxml2 has got a part. */
@@ -566,7 +473,7 @@ static size_t whole_length(const struct reader *reader) {
     return length;
 }
 
-/* Adds a value as a whole, for which there is room, without marks for blanks and control characters. Returns it. */
+/* Adds a value as a whole, for which there is room, without marks. Returns it. */
 static struct span unmarked_whole(struct reader *reader, struct span value, bool has_tokens) {
     const struct left_out *left = &reader->feed.shortening.left;
     struct bytes *whole = &reader->feed.shortening.whole;
@@ -577,13 +484,13 @@ static struct span unmarked_whole(struct reader *reader, struct span value, bool
         left_out_add(left, value, whole);
     }
     struct span found = {whole->data + begin, whole->length - begin};
-    if (!may_have_marks(reader) || !unmark(reader, found, NULL, whole)) {
+    if (!unmark(reader, found, whole)) {
         return found;
     }
     size_t length = whole->length - begin - found.length;
     memmove(whole->data + begin, whole->data + begin + found.length, length);
     whole->length = begin + length;
-    return taken(reader, (struct span){whole->data + begin, length});
+    return (struct span){whole->data + begin, length};
 }
 
 /* Writes the values of a tag whole of which libxml2 has got a part. */
@@ -591,7 +498,7 @@ static void write_whole(struct reader *reader, const xmlChar **attributes) {
     const struct left_out *left = &reader->feed.shortening.left;
     struct bytes *whole = &reader->feed.shortening.whole;
     size_t length = whole_length(reader);
-    if (!bytes_reserve(whole, may_have_marks(reader) ? 2 * length : length)) {
+    if (!bytes_reserve(whole, reader->declarations.has_marks ? 2 * length : length)) {
         out_of_memory(reader);
     }
     for (size_t at = 0; at < reader->start.attribute_count && is_good(reader); at++, attributes += 5) {
@@ -606,7 +513,7 @@ static void write_whole(struct reader *reader, const xmlChar **attributes) {
 
 static void add_attributes(struct reader *reader, struct start_event *start, int count, const xmlChar **attributes) {
     start->attribute_count = 0;
-    if (may_have_marks(reader)) {
+    if (reader->declarations.has_marks) {
         clear_values(reader, count, attributes);
     }
     for (int at = 0; at < count && is_good(reader); at++) {
@@ -625,103 +532,6 @@ static void add_attributes(struct reader *reader, struct start_event *start, int
     if (has_left_out(&reader->feed.shortening.left) && is_good(reader)) {
         write_whole(reader, attributes);
     }
-}
-
-/* Whether the tag has the declaration by default, as far as the DTD says. */
-static bool may_be_default(const struct reader *reader, const struct event_declaration *declaration) {
-    bool is_one = false;
-    for (size_t at = 0; at < reader->declarations.default_count && !is_one; at++) {
-        const struct namespace_default *found = &reader->declarations.defaults[at];
-        const char *prefix = found->name[5] == '\0' ? "" : found->name + 6;
-        is_one = is_written(reader->start.name, found->element) && is_text(declaration->prefix, prefix, strlen(prefix)) &&
-                 is_text(declaration->uri, found->value, strlen(found->value));
-    }
-    return is_one;
-}
-
-/* The text of the tag that was read, which takes a prefix back. */
-static struct span tag_text(const struct reader *reader) {
-    if (is_in_content(reader)) {
-        uint64_t end = reader->start.position.at;
-        uint64_t begin = feed_last(&reader->feed, end, "<");
-        return feed_text(&reader->feed, begin, (size_t)(end - begin));
-    }
-    const xmlParserInput *input = reader->tag_parser->input;
-    const xmlChar *begin = input->cur;
-    while (begin > input->base && *begin != '<') {
-        begin--;
-    }
-    return (struct span){(const char *)begin, (size_t)(input->cur - begin)};
-}
-
-/* Drops the declarations by default of prefixes that the tag takes back, since what a tag has itself is not there by default. */
-static void drop_defaults(struct reader *reader, struct start_event *start) {
-    size_t kept = 0;
-    for (size_t at = 0; at < start->declaration_count && is_good(reader); at++) {
-        struct event_declaration declaration = reader->declared[at];
-        bool is_both = withdrawn_has(&reader->withdrawn, declaration.prefix) && may_be_default(reader, &declaration);
-        struct span tag = is_both ? tag_text(reader) : (struct span){"", 0};
-        size_t times = withdrawn_count(tag, declaration.prefix);
-        count_defaults(reader, tag.length);
-        if (is_both && times == 0) {
-            fault_set(reader->fault, FAULT_OUTSIDE, place_of(start->position), "a tag that is too long for a prefix that it takes back: outside the profile");
-        }
-        if (times != 1) {
-            reader->declared[kept++] = declaration;
-        }
-    }
-    start->declaration_count = kept;
-}
-
-/* Refuses a tag that takes back a prefix which it declares. */
-static void take_both(struct reader *reader, const struct start_event *start, const struct event_declaration *both) {
-    fault_set(reader->fault, FAULT_MALFORMED, place_of(start->position), "malformed XML: the attribute xmlns:%.*s is there twice", (int)both->prefix.length,
-              both->prefix.data);
-}
-
-/* Does for XML 1.1 what libxml2 does not: takes back the prefixes that the tag takes back. */
-static void take_withdrawn(struct reader *reader, struct start_event *start) {
-    struct withdrawn *withdrawn = &reader->withdrawn;
-    drop_defaults(reader, start);
-    const struct event_declaration *both = withdrawn_take(withdrawn, reader->declared, start);
-    const struct event_name *name = withdrawn_name(withdrawn, start);
-    reader->searched += (start->declaration_count + start->attribute_count + 1) * (uint64_t)withdrawn->count;
-    if (withdrawn->failed) {
-        out_of_memory(reader);
-    } else if (both != NULL) {
-        take_both(reader, start, both);
-    } else if (withdrawn->count > 0 && reader->sink.reads_prefixes) {
-        fault_set(reader->fault, FAULT_OUTSIDE, place_of(start->position), "a prefix that XML 1.1 lets an element take back: outside the profile");
-    } else if (name != NULL && reader->sink.checks_names) {
-        struct bytes words = NO_BYTES;
-        bytes_format(&words, "the prefix '%.*s' is not declared (NS 5)", (int)name->prefix.length, name->prefix.data);
-        const char *text = bytes_text(&words);
-        if (words.failed) {
-            out_of_memory(reader);
-        }
-        fault_set_clause(reader->fault, 11, place_of(start->position), text);
-        bytes_free(&words);
-    } else if (name != NULL) {
-        fault_set(reader->fault, FAULT_MALFORMED, place_of(start->position), "malformed XML: the prefix '%.*s' is not declared", (int)name->prefix.length,
-                  name->prefix.data);
-    }
-}
-
-/* Whether a namespace that the tag declares has a control character. */
-static bool has_control_in_namespace(const struct start_event *start) {
-    bool is_found = false;
-    for (size_t at = 0; at < start->declaration_count && !is_found; at++) {
-        is_found = has_controls(start->declarations[at].uri);
-    }
-    return is_found;
-}
-
-/* Reads the tag by the rules of XML 1.1. */
-static void read_1_1(struct reader *reader, struct start_event *start) {
-    if (reader->feed.controls.has_marks && has_control_in_namespace(start)) {
-        fault_set(reader->fault, FAULT_OUTSIDE, place_of(start->position), "%s", control_character);
-    }
-    take_withdrawn(reader, start);
 }
 
 /* Finds out whether the tag breaks Namespaces in XML, if that is wanted. */
@@ -785,13 +595,9 @@ static struct span uri_of(struct reader *reader, struct span prefix) {
 
 /* The value of an attribute that libxml2 has not got, as it is normalized. */
 static struct span wide_value(struct reader *reader, size_t at, bool has_tokens) {
-    enum mark_part part = MARK_NONE;
     size_t length = 0;
     char *value = wide_tag_value(&reader->feed.wide, at, &length);
-    if (reader->feed.controls.has_marks) {
-        length = unmark_controls(value, length, &part);
-    }
-    return taken(reader, (struct span){value, has_tokens ? leave_tokens(value, length) : length});
+    return (struct span){value, has_tokens ? leave_tokens(value, length) : length};
 }
 
 /* Adds an attribute that libxml2 has not got. */
@@ -990,9 +796,6 @@ static OUT_OF_LINE void take_any_start(void *context, const xmlChar *local, cons
         count_defaults(reader, (uint64_t)attribute_count * (uint64_t)attribute_count / COST_OF_DEFAULTS);
         reader->has_double = true;
     }
-    if (reader->feed.decoding.is_1_1 && is_good(reader)) {
-        read_1_1(reader, start);
-    }
     if (is_good(reader)) {
         hand_start(reader, start);
     }
@@ -1003,7 +806,7 @@ static OUT_OF_LINE void take_any_start(void *context, const xmlChar *local, cons
     start->has_fleeting_name = false;
     reader->has_double = false;
     reader->has_undeclared = false;
-    reader->is_unusual = reader->declarations.default_count > 0 || may_have_marks(reader) || reader->withdrawn.count > 0;
+    reader->is_unusual = reader->declarations.default_count > 0 || reader->declarations.has_marks;
 }
 
 /* Whether a start tag is usual: in the document, of a known name, with nothing that is declared or that is there by default. */
@@ -1130,26 +933,10 @@ static struct position instruction_position(struct reader *reader) {
     return (struct position){begin, 0};
 }
 
-/* Hands an instruction to the receiver. One of an entity may have marks. A receiver that takes control characters in texts takes no instructions. */
-static void hand_instruction(struct reader *reader, struct position position, struct span target, struct span data) {
-    enum mark_part part = MARK_NONE;
-    bytes_clear(&reader->piece);
-    if (reader->feed.controls.has_marks && has_control_marks(data)) {
-        bytes_add(&reader->piece, data.data, data.length);
-        data = (struct span){reader->piece.data, reader->piece.failed ? 0 : unmark_controls(reader->piece.data, data.length, &part)};
-    }
-    if (reader->piece.failed) {
-        out_of_memory(reader);
-    } else if (reader->sink.control == NULL && has_controls(data)) {
-        fault_set(reader->fault, FAULT_OUTSIDE, place_of(position), "%s", control_character);
-    } else {
-        reader->sink.instruction(reader->sink.context, position, target, data);
-    }
-}
-
-static void hand_good_instruction(struct reader *reader, struct span target, struct span data) {
+/* Hands an instruction to the receiver. */
+static void hand_instruction(struct reader *reader, struct span target, struct span data) {
     if (is_good(reader)) {
-        hand_instruction(reader, instruction_position(reader), target, data);
+        reader->sink.instruction(reader->sink.context, instruction_position(reader), target, data);
     }
 }
 
@@ -1162,13 +949,13 @@ static void take_instruction(void *context, const xmlChar *target, const xmlChar
         span = (struct span){span.data + mark, span.length - mark};
     }
     if (!feed_is_read(&reader->feed)) {
-        hand_good_instruction(reader, span_of(target), span);
+        hand_instruction(reader, span_of(target), span);
         return;
     }
     bool is_part = section_is_part(&reader->feed.section, feed_offset(&reader->feed), &reader->feed.skew);
     feed_check_inclusion(&reader->feed);
     if (!reader->feed.section.is_continued) {
-        hand_good_instruction(reader, whole_name(reader, span_of(target)), span); /* of a long one this is the beginning */
+        hand_instruction(reader, whole_name(reader, span_of(target)), span); /* of a long one this is the beginning */
     }
     feed_move(&reader->feed, feed_offset(&reader->feed));
     section_begins_again(&reader->feed.section, is_part, &reader->feed.skew);
@@ -1203,9 +990,6 @@ static void take_document(void *context) {
     struct reader *reader = context;
     xmlSAX2StartDocument(reader->feed.parser);
     move_on(reader);
-    if (reader->feed.decoding.is_1_1 && reader->sink.version != NULL) {
-        reader->sink.version(reader->sink.context);
-    }
 }
 
 static void take_subset(void *context, const xmlChar *name, const xmlChar *public, const xmlChar *system) {
@@ -1448,32 +1232,9 @@ static void take_malformed(struct reader *reader, parser_error *error) {
     bytes_free(&words);
 }
 
-/* Takes a prefix that a tag takes back, which libxml2 passes over. */
-static void take_prefix(struct reader *reader, const parser_error *error) {
-    const char *prefix = error->str1;
-    reader->is_unusual = true;
-    reader->tag_parser = error->ctxt;
-    if (!withdrawn_add(&reader->withdrawn, span_of((const xmlChar *)prefix), reader->start.depth + 1)) {
-        fault_set(reader->fault, FAULT_MALFORMED, error_place(reader, &(parser_error){.code = XML_ERR_ATTRIBUTE_REDEFINED}),
-                  "malformed XML: the attribute xmlns:%s is there twice", prefix);
-    }
-}
-
 /* Whether libxml2 is at a bracket of a declaration that is over the limit. */
 static bool is_too_deep(const struct reader *reader, const parser_error *error) {
     return error->code == XML_ERR_ELEMCONTENT_NOT_STARTED && *reader->feed.parser->input->cur == DEEP_BRACKET;
-}
-
-/* Takes an error that is none in XML 1.1. False: it is one. */
-static bool take_1_1(struct reader *reader, const parser_error *error) {
-    if (takes_prefix_back(error)) {
-        take_prefix(reader, error);
-    } else if (error->domain == XML_FROM_PARSER && error->code == XML_ERR_INVALID_CHAR && is_control(error->int1)) {
-        fault_set(reader->fault, FAULT_OUTSIDE, error_place(reader, error), "%s", control_character);
-    } else {
-        return false;
-    }
-    return true;
 }
 
 /* Whether libxml2, which is behind a system identifier, declares a parameter entity, or may do so. */
@@ -1531,8 +1292,6 @@ static void take_error(void *context, parser_error *error) {
     if (error->code == XML_ERR_NO_MEMORY || reader->memory.has_failed) {
         out_of_memory(reader);
         stop_subset(reader);
-    } else if (reader->feed.decoding.is_1_1 && take_1_1(reader, error)) {
-        return;
     } else if (error->code == XML_ERR_UNDECLARED_ENTITY || error->code == XML_WAR_UNDECLARED_ENTITY) {
         take_undeclared(reader, error->str1 == NULL ? "" : error->str1);
     } else if (error->domain == XML_FROM_NAMESPACE && error->code == XML_NS_ERR_QNAME) {
@@ -1663,12 +1422,10 @@ static void read_by_libxml2(struct reader *reader) {
     parser_memory_end(&reader->memory);
 }
 
-/* Notes that a code of the encoding is read as only some programs read it. */
-static void take_doubt(void *context, struct place place) {
-    const struct reader *reader = context;
-    parser_memory_pause(true);
-    reader->sink.note(reader->sink.context, place, read_as_java);
-    parser_memory_pause(false);
+/* Notes that iconv reads the document. */
+static void take_iconv(void *context, const char *encoding) {
+    struct reader *reader = context;
+    declarations_note(&reader->declarations, (struct place){1, 1}, read_by_iconv, BAD_CAST encoding);
 }
 
 /* Adds what a reference gives in a value of which libxml2 gets a part. */
@@ -1689,16 +1446,6 @@ static void use_inclusions(void *context) {
     reader->feed.parser->sax->endElementNs = take_included_end;
 }
 
-/* From now on texts and values may have marks for control characters. */
-static void use_marks(void *context) {
-    struct reader *reader = context;
-    xmlSAXHandler *handlers = reader->feed.parser->sax;
-    reader->feed.spelling = reader->sink.spelling == NULL ? NULL : reader->sink.spelling(reader->sink.context);
-    handlers->characters = take_marked_text;
-    handlers->ignorableWhitespace = take_marked_text;
-    reader->is_unusual = true;
-}
-
 static void open_reader(struct reader *reader, const struct byte_source *source, const struct event_sink *sink, struct fault *fault) {
     memset(reader, 0, offsetof(struct reader, names.slots));
     reader->sink = *sink;
@@ -1706,7 +1453,6 @@ static void open_reader(struct reader *reader, const struct byte_source *source,
     feed_open(&reader->feed, source, fault);
     reader->feed.keep = keep;
     reader->feed.before_read = before_read;
-    reader->feed.marked = use_marks;
     reader->feed.shortened = take_shortened;
     reader->feed.included = use_inclusions;
     reader->feed.depth = &reader->start.depth;
@@ -1720,7 +1466,7 @@ static void open_reader(struct reader *reader, const struct byte_source *source,
     }
 #endif
     reader->feed.models.most = reader->feed.most_depth > LEVELS_OF_LIBXML2 ? reader->feed.most_depth : LEVELS_OF_LIBXML2;
-    reader->feed.doubtful = take_doubt;
+    reader->feed.by_iconv = take_iconv;
     reader->feed.most = sink->memory == 0 ? USUAL_MEMORY : sink->memory;
     reader->feed.most_attributes = sink->attributes == 0 ? USUAL_ATTRIBUTES : sink->attributes;
     reader->allowed = 1;
@@ -1740,9 +1486,7 @@ void read_events(const struct byte_source *source, const struct event_sink *sink
     open_reader(reader, source, sink, fault);
     read_by_libxml2(reader);
     feed_close(&reader->feed);
-    withdrawn_free(&reader->withdrawn);
     bytes_free(&reader->values);
-    bytes_free(&reader->piece);
     free(reader->attributes);
     free(reader->declared);
     free(reader);

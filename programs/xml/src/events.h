@@ -61,15 +61,8 @@ struct event_sink {
     void (*flush)(void *context); /* comes before more of the document is read, which may take long; NULL: not wanted */
     void (*keep)(void *context);  /* comes before names, raw texts and places of earlier events vanish, also after a fault; NULL: not wanted */
     size_t (*held)(const void *context); /* how many bytes it keeps of the document; NULL: none that grow with it */
-    void (*version)(void *context); /* comes before the events of a document of XML 1.1; NULL: not wanted */
-    /* Comes before each text and value with a control character of XML 1.1. Returns why the document is refused; NULL: it is not. NULL: each is. */
-    const char *(*control)(void *context, struct span text);
-    /* Comes before the first of them, or U+007F by a reference, anywhere in the document. Returns the end for namespaces with control characters
-     * (spell_controls), since the receiver has none of these. If it is NULL, or returns NULL, such a namespace is refused. */
-    const char *(*spelling)(void *context);
     void *context;
     bool checks_names; /* a tag that breaks Namespaces in XML is a fault, with its clause */
-    bool reads_prefixes; /* prefixes in values have a meaning for it, so a tag that takes one back is a fault */
     size_t depth;      /* the most elements that may be open, and entities, or brackets of a declaration, in one another (always 500); 0: USUAL_DEPTH */
     size_t memory;     /* the most bytes that may be held of the document; 0: USUAL_MEMORY */
     size_t attributes; /* the most of a tag, with declarations of namespaces; 0: USUAL_ATTRIBUTES */

@@ -110,8 +110,7 @@ static int open_file(const char *path, struct fault *fault) {
     return -1;
 }
 
-bool external_read(const struct external *entity, struct bytes *text, struct bytes *path, bool *has_doubt, struct fault *fault) {
-    *has_doubt = false;
+bool external_read(const struct external *entity, struct bytes *text, struct bytes *path, struct bytes *encoding, struct fault *fault) {
     if (entity->uri == NULL || !find(entity->public, entity->uri, path)) {
         return fails(fault, FAULT_OUTSIDE, "nothing is fetched");
     }
@@ -121,7 +120,6 @@ bool external_read(const struct external *entity, struct bytes *text, struct byt
     }
     struct decoding decoding = NO_DECODING;
     decoding.is_external = true;
-    decoding.is_1_1 = entity->is_1_1;
     bool is_good = read_all(file, &decoding, text, fault);
     close(file);
     if (is_good) {
@@ -130,7 +128,7 @@ bool external_read(const struct external *entity, struct bytes *text, struct byt
     if (is_good && decoding.fault.kind != FAULT_NONE) {
         is_good = fails(fault, decoding.fault.kind, bytes_text(&decoding.fault.what));
     }
-    *has_doubt = decoding.has_doubt;
+    bytes_add_text(encoding, decoding.is_by_iconv ? decoding.encoding : "");
     decoding_free(&decoding);
-    return is_good && !path->failed;
+    return is_good && !path->failed && !encoding->failed;
 }

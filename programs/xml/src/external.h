@@ -10,11 +10,10 @@
 struct external {
     const xmlChar *public;
     const xmlChar *uri; /* where the document says that it is. A catalog of XML may say otherwise */
-    bool is_1_1;        /* whether the document has the rules of XML 1.1, which then are those of the entity */
 };
 
-/* Reads its text, as UTF-8 and without its text declaration. Adds the path to `path`. `has_doubt` says whether it has a code that other programs read
- * otherwise. False: `fault` says why, without a place. */
-bool external_read(const struct external *entity, struct bytes *text, struct bytes *path, bool *has_doubt, struct fault *fault);
+/* Reads its text, as UTF-8 and without its text declaration. Adds the path to `path`, and to `encoding` the name of the encoding if iconv has read it. False:
+ * `fault` says why, without a place. */
+bool external_read(const struct external *entity, struct bytes *text, struct bytes *path, struct bytes *encoding, struct fault *fault);
 
 #endif

@@ -39,7 +39,6 @@ void feed_open(struct feed *feed, const struct byte_source *source, struct fault
     feed->place = (struct place){1, 1};
     feed->since = feed->place;
     feed->long_at = UINT64_MAX;
-    feed->doubt_at = UINT64_MAX;
     feed->taken_back = ULONG_MAX;
 }
 
@@ -255,12 +254,11 @@ static void cut(struct feed *feed, uint64_t end) {
     }
 }
 
-/* Forgets long markup that is being read, but its beginning and its last bytes. In XML 1.1 a tag with a namespace by default may be looked at again. */
+/* Forgets long markup that is being read, but its beginning and its last bytes. */
 static void forget_long(struct feed *feed) {
     uint64_t given = feed->begin + feed->given;
     uint64_t markup = feed_markup(feed);
-    bool is_kept = feed->decoding.is_1_1 && feed->defaults > 0;
-    if (is_kept || feed->section.is_continued || given < markup + LONG_BYTES || feed_byte(feed, markup) != '<') {
+    if (feed->section.is_continued || given < markup + LONG_BYTES || feed_byte(feed, markup) != '<') {
         return;
     }
     if (feed->long_at != markup) {
@@ -373,8 +371,9 @@ static bool read_more(struct feed *feed) {
     } else {
         decoding_take(&feed->decoding, feed->room.data, length, &feed->text);
     }
-    if (feed->decoding.has_doubt && feed->doubt_at == UINT64_MAX) {
-        feed->doubt_at = feed->begin + feed->decoding.doubt_at;
+    if (feed->decoding.is_by_iconv && !feed->has_told_iconv) {
+        feed->has_told_iconv = true;
+        feed->by_iconv(feed->context, feed->decoding.encoding);
     }
     if (!feed->decoding.is_known) {
         feed_check_memory(feed, feed->place);
@@ -577,52 +576,17 @@ static void stop_asking(struct feed *feed) {
 
 /* Whether there is enough of the text for libxml2, which wants so many bytes. */
 static bool has_enough(const struct feed *feed, size_t wanted) {
-    return feed->text.length - feed->given >= wanted + REFERENCE_AHEAD + (feed->decoding.is_1_1 ? LONGEST_CONTROL : 0);
-}
-
-void feed_has_marks(struct feed *feed) {
-    if (!feed->controls.has_marks) {
-        feed->controls.has_marks = true;
-        feed->marked(feed->context);
-    }
-}
-
-/* Copies so many bytes of XML 1.1, with marks in the place of references to control characters. Texts of entities have their marks already, and of a long
- * reference the mark begins with a reference. */
-static void write_marked(struct feed *feed, struct span text, char *bytes, size_t count) {
-    uint64_t offset = feed->begin + feed->given;
-    uint64_t own = included_up_to(&feed->inclusions);
-    size_t included = own <= offset ? 0 : own - offset < count ? (size_t)(own - offset) : count;
-    memcpy(bytes, text.data, included);
-    mark_controls(&feed->controls, offset + included, span_from(text, included), bytes + included, count - included);
+    return feed->text.length - feed->given >= wanted + REFERENCE_AHEAD;
 }
 
 /* Writes so many bytes for libxml2. */
 static void write_bytes(struct feed *feed, char *bytes, size_t count) {
-    const char *from = feed->text.data + feed->given;
-    size_t left = feed->text.length - feed->given;
-    bool had_marks = feed->controls.has_marks;
-    if (feed->decoding.is_1_1) {
-        write_marked(feed, (struct span){from, left}, bytes, count);
-    } else {
-        memcpy(bytes, from, count);
-    }
+    memcpy(bytes, feed->text.data + feed->given, count);
     make_shallow(&feed->models, bytes, count);
     if (feed->models.separators.failed) {
         fault_set(feed->fault, FAULT_MEMORY, (struct place){0, 0}, "out of memory");
     }
     feed->given += count;
-    if (feed->controls.has_marks && !had_marks) {
-        feed->marked(feed->context);
-    }
-}
-
-/* Tells about the first code that other programs read otherwise, once libxml2 has it. */
-static void tell_doubt(struct feed *feed) {
-    if (feed->doubt_at < feed->begin + feed->given && !feed->has_told_doubt) {
-        feed->has_told_doubt = true;
-        feed->doubtful(feed->context, counted_own(feed, feed->place, feed->place_at, feed->doubt_at));
-    }
 }
 
 /* Whether there may be more to read. */
@@ -651,24 +615,6 @@ static void pass(struct feed *feed, size_t length) {
     feed->given += length;
     feed->scan.next = feed->begin + feed->given;
     section_pass(&feed->section, feed->scan.next);
-    tell_doubt(feed);
-}
-
-/* Lets long markup be shortened by the rules of the document's version. In the text of an entity marks are in the place of references already. */
-static void set_version(struct feed *feed) {
-    feed->shortening.scan.is_1_1 = feed->decoding.is_1_1 && feed->inclusions.count == 0;
-    feed->shortening.has_marks = feed->shortening.scan.is_1_1;
-}
-
-/* Leaves out a reference by itself, to a character or in the literal of an entity. Returns its length; 0: it stays. */
-static size_t leave_character(struct feed *feed, struct span next) {
-    const struct bytes *text = &feed->shortening.text;
-    size_t before = text->length;
-    size_t length = shortening_leave_reference(&feed->shortening, next);
-    if (length > 0 && feed->shortening.has_marks && has_control_marks((struct span){text->data + before, text->length - before})) {
-        feed_has_marks(feed);
-    }
-    return length;
 }
 
 /* Whether the reference at the start of the text ends within so many bytes. */
@@ -686,7 +632,7 @@ static size_t leave_reference(struct feed *feed) {
     }
     struct span next = not_given(feed);
     next.length = next.length < REFERENCE_BYTES ? next.length : REFERENCE_BYTES;
-    size_t length = leave_character(feed, next);
+    size_t length = shortening_leave_reference(&feed->shortening, next);
     if (length > 0 || feed->shortening.scan.kind != RUN_VALUE) {
         return length;
     }
@@ -866,11 +812,10 @@ static size_t attribute_end(const struct feed *feed, size_t most) {
 
 /* The next attribute. More of the text is read for it. */
 static struct attribute_text next_attribute(struct feed *feed) {
-    bool is_1_1 = feed->shortening.scan.is_1_1;
-    struct attribute_text found = attribute_at(not_given(feed), is_1_1);
+    struct attribute_text found = attribute_at(not_given(feed));
     size_t wanted = PIECE_BYTES;
     while (found.is_cut && wanted <= MOST_AHEAD && may_have_more(feed) && read_for(feed, wanted)) {
-        found = attribute_at(not_given(feed), is_1_1);
+        found = attribute_at(not_given(feed));
         wanted *= 2;
     }
     return found;
@@ -878,16 +823,8 @@ static struct attribute_text next_attribute(struct feed *feed) {
 
 /* Leaves out an attribute of a wide tag. False: it has to stay. */
 static bool leave_attribute(struct feed *feed, const struct attribute_text *attribute) {
-    const struct reference_reader reader = {feed->shortening.expand, feed->context, feed->shortening.has_marks};
-    if (attribute->length == 0 || feed->fault->kind != FAULT_NONE || !wide_tag_add(&feed->wide, attribute, &reader)) {
-        return false;
-    }
-    size_t length = 0;
-    const char *value = reader.has_marks ? wide_tag_value(&feed->wide, feed->wide.count - 1, &length) : NULL;
-    if (has_control_marks((struct span){value, length})) {
-        feed_has_marks(feed);
-    }
-    return true;
+    const struct reference_reader reader = {feed->shortening.expand, feed->context};
+    return attribute->length > 0 && feed->fault->kind == FAULT_NONE && wide_tag_add(&feed->wide, attribute, &reader);
 }
 
 /* Leaves out attributes of a wide tag, as long as they are usual. */
@@ -1019,12 +956,10 @@ int feed_read(void *context, char *bytes, int length) {
     if (feed->text.length == feed->given || wanted == 0) {
         return 0;
     }
-    set_version(feed);
     size_t count = give(feed, bytes, wanted);
     if (count == 0) { /* all that came before the fault was left out, and libxml2 must not take that for the end */
         take_fault(feed);
     }
-    tell_doubt(feed);
     stop_asking(feed);
     check(feed);
     return feed->fault->kind == FAULT_NONE ? (int)count : -1;

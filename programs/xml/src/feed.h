@@ -1,13 +1,11 @@
 /* Gives a document's text to libxml2 as it reads, and knows the place of each offset in the text.
  *
- * The text is what `decoding.h` makes of the document, so libxml2 sees UTF-8 with a line feed for each line end, whatever the document's encoding. In XML 1.1
- * it sees marks in the place of the references that `controls.h` finds. `models.h` says what it sees of content models, `choices.h` of the choices of
- * attributes, `sections.h` of long comments and the like, `shortening.h` of long names and values, `long_references.h` of long references, `inclusions.h` of
+ * The text is what `decoding.h` makes of the document, so libxml2 sees UTF-8 with a line feed for each line end, whatever the document's encoding.
+ * `models.h` says what it sees of content models, `choices.h` of the choices of attributes, `sections.h` of long comments and the like, `shortening.h` of long names and values, `long_references.h` of long references, `inclusions.h` of
  * long entities, `wide_tags.h` of many attributes. */
 #ifndef FEED_H
 #define FEED_H
 
-#include "controls.h"
 #include "decoding.h"
 #include "events.h"
 #include "inclusions.h"
@@ -50,7 +48,6 @@ struct feed {
     uint64_t settled;   /* the last offset up to which references that gave nothing were passed */
     uint64_t next;      /* the offset of the markup or the text that is being read */
     struct tag_scan scan;
-    struct control_scan controls; /* in a document of XML 1.1 */
     struct reference_scan references;
     struct model_scan models;
     uint64_t parted_at; /* the offset at which a long model was parted last; 0: none was */
@@ -61,7 +58,6 @@ struct feed {
     struct inclusions inclusions;
     unsigned long taken_back; /* the bytes that libxml2 had forgotten when it had just read a reference whose text is included; ULONG_MAX: unknown */
     const size_t *depth; /* how many elements are open */
-    const char *spelling; /* of marks in namespaces (spell_controls); NULL: these become characters */
     struct bytes room;  /* where the document's bytes are read */
     uint64_t long_at;   /* the offset of markup that is so long that its beginning is not kept, .. */
     struct place long_place;
@@ -73,10 +69,8 @@ struct feed {
     size_t kept;        /* the bytes that the receiver keeps, when it was asked last */
     void (*keep)(void *context);        /* is called before text that was read is forgotten */
     void (*before_read)(void *context); /* is called before more of the document is read, which may take long */
-    bool has_told_doubt;                /* about a code that other programs read otherwise. It is at .. */
-    uint64_t doubt_at;                  /* .. this offset; UINT64_MAX: there is none */
-    void (*doubtful)(void *context, struct place place); /* is called after libxml2 got the first such code */
-    void (*marked)(void *context);      /* is called after libxml2 got the first mark for a control character */
+    bool has_told_iconv;                /* that it has read something */
+    void (*by_iconv)(void *context, const char *encoding); /* is called if it reads the document */
     void (*included)(void *context);    /* is called before libxml2 gets the text of an entity as if the document had it */
     void (*shortened)(void *context);   /* is called after libxml2 got less of a tag or a declaration than the document has */
     void *context;
@@ -183,9 +177,6 @@ void feed_refuse(struct feed *feed, struct place place, const char *what, uint64
 
 /* The option that raises the limits which grow with the attributes of a tag, once these may be more than usual. */
 const char *feed_raising(const struct feed *feed);
-
-/* Notes that libxml2 gets a text with such marks. */
-void feed_has_marks(struct feed *feed);
 
 /* Whether a tag in the text has more attributes than so many. */
 bool has_too_many_attributes(struct span text, size_t most);

@@ -28,9 +28,6 @@ static void look_again(struct feed *feed) {
     feed->markup = 0;
     feed->section = (struct section){0};
     feed->scan = (struct tag_scan){0};
-    feed->controls.markup = (struct markup_scan){.is_content = !is_in_subset(feed)};
-    feed->controls.is_long = false;
-    feed->controls.behind = 0;
     shortening_look_again(&feed->shortening);
     if (is_in_subset(feed)) {
         models_look_again(&feed->models);
@@ -50,10 +47,6 @@ static void keep_later(struct feed *feed, uint64_t begin, struct included_text *
     feed->text.length = feed->given;
     text->looked = taken_back(&feed->references.looked, begin);
     text->searched = taken_back(&feed->references.searched, begin);
-    if (feed->doubt_at != UINT64_MAX && feed->doubt_at >= begin) {
-        text->doubt_at = feed->doubt_at - begin + 1;
-        feed->doubt_at = UINT64_MAX;
-    }
 }
 
 void feed_include(struct feed *feed, const void *entity, struct span text, struct bytes *own) {
@@ -84,7 +77,6 @@ bool feed_read_included(struct feed *feed) {
     if (inclusions_read(&feed->inclusions, &feed->text, feed->begin, &ended, &later)) {
         feed->references.looked = ended.looked > 0 ? later + ended.looked : feed->references.looked;
         feed->references.searched = ended.searched > 0 ? later + ended.searched : feed->references.searched;
-        feed->doubt_at = ended.doubt_at > 0 ? later + ended.doubt_at - 1 : feed->doubt_at;
     }
     if (feed->text.failed) {
         fault_set(feed->fault, FAULT_MEMORY, (struct place){0, 0}, "out of memory");

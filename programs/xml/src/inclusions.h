@@ -25,7 +25,6 @@ struct included_text {
     struct bytes later; /* what libxml2 gets behind the text, .. */
     uint64_t looked;    /* .. and offsets of the feed in there; 0: they are before */
     uint64_t searched;
-    uint64_t doubt_at;
 };
 
 /* An entity whose text libxml2 reads. */

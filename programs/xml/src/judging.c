@@ -1,7 +1,6 @@
 #include "judging.h"
 
 #include "finding.h"
-#include "judge_forms.h"
 #include "second_reading.h"
 #include "telling.h"
 
@@ -59,7 +58,7 @@ struct judging {
     const struct start_event *start; /* the start that was passed last, if it is at hand; else NULL */
     size_t usual_depth; /* a start that is deeper is a usual one: no scope has ended before it, the document is valid so far, and has no IDs */
     bool has_ids;    /* IDs are checked */
-    bool is_usual;   /* the document is valid so far, has no IDs, and no form of the schema for control characters is used */
+    bool is_usual;   /* the document is valid so far, and has no IDs */
     bool is_behind_start; /* the last start or end was a start */
     bool has_begun; /* a byte of the document was read, and this is the first one */
     char first;
@@ -81,7 +80,6 @@ void judge_close(struct judge *judge) {
     bytes_free(&judge->text);
     id_check_close(&judge->ids);
     second_free(judge->second);
-    judge_forms_close(judge);
 }
 
 static void hints_free(struct answer *answer) {
@@ -474,7 +472,7 @@ static OUT_OF_LINE void take_any_text(struct judging *judging, struct position p
     if (!judging->found.is_there) {
         keep_piece(judging, position, text, is_raw);
     }
-    int32_t status = library_any_text(&judge->schema, &judge->room, text);
+    int32_t status = library_text(&judge->schema, text);
     if (status != RNCV_DONE) {
         is_not_taken(judging, status);
     }
@@ -547,35 +545,6 @@ static size_t held(const void *context) {
     size_t text = 0;
     rncv_events_held(&judge->schema, &text);
     return id_check_held(&judge->ids) + scope_held(&judge->scope) + text;
-}
-
-/* Chooses the form of the schema for a document of XML 1.1, before its first event. */
-static void take_version(void *context) {
-    struct judging *judging = context;
-    bool is_used = false;
-    if (!judge_use_controls(judging->judge, &is_used) || (is_used && rncv_events_begin(&judging->judge->schema) != RNCV_DONE)) {
-        out_of_memory(judging);
-    }
-    judging->is_usual = judging->is_usual && !is_used;
-}
-
-/* The end that the library gets for namespaces with control characters. */
-static const char *spelling(void *context) {
-    struct judging *judging = context;
-    struct judge *judge = judging->judge;
-    if (!judge_know_controls(judge)) {
-        out_of_memory(judging);
-    }
-    return judge->controls.spelling[0] == '\0' ? NULL : judge->controls.spelling;
-}
-
-/* Lets the library get other characters for control characters, unless the schema may tell them apart. */
-static const char *take_control(void *context, struct span text) {
-    struct judge *judge = ((struct judging *)context)->judge;
-    judge->room.stand_ins = judge_stand_ins(judge);
-    return have_stand_ins(judge->room.stand_ins, text)
-               ? NULL
-               : "a control character by a reference, and the schema has a pattern or value that may be about it: outside the profile";
 }
 
 static void take_note(void *context, struct place place, const char *what) {
@@ -728,9 +697,6 @@ static void read_source(struct judging *judging, const struct byte_source *sourc
                               .note = take_note,
                               .keep = keep,
                               .held = held,
-                              .version = take_version,
-                              .control = take_control,
-                              .spelling = spelling,
                               .context = judging,
                               .checks_names = true,
                               .depth = shared->depth,
@@ -763,9 +729,7 @@ static void add_hints(struct judging *judging, const char *name) {
 
 /* Forgets what was kept of another document. */
 static void forget(struct judge *judge) {
-    judge_use_schema(judge);
     judge->found_number = 0;
-    judge->room.stand_ins = NULL;
     scope_clear(&judge->scope);
     if (judge->text.failed) {
         bytes_free(&judge->text);

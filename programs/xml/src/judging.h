@@ -2,12 +2,10 @@
 #ifndef JUDGING_H
 #define JUDGING_H
 
-#include "control_form.h"
-#include "declared.h"
+#include "alone_schema.h"
 #include "id_check.h"
 #include "library_calls.h"
 #include "program.h"
-#include "schema_controls.h"
 #include "scope.h"
 #include "shown.h"
 
@@ -108,23 +106,11 @@ struct open_name {
     struct span local;
 };
 
-/* What a judge has of a form of its schema. */
-struct judge_form {
-    rncv_schema schema;
-    struct declared declared; /* the attributes of the schema */
-    struct second *second;    /* what hints need, once a document was invalid; NULL: nothing yet */
-};
-
 /* A judge: one for each thread. */
 struct judge {
     struct shared *shared;
     rncv_schema schema;
     rncv_schema asked; /* another handle on it, for questions while a document is in progress */
-    struct schema_controls controls; /* of its schema */
-    struct control_form *controlled; /* the form of its schema for control characters, if one was wanted; else NULL */
-    bool has_controlled; /* there is such a form */
-    bool is_controlled;  /* it is used: `schema`, `declared` and `second` are of that form, and those of the schema as it is are unused */
-    struct judge_form unused;
     struct declared declared; /* the attributes of the schema */
     struct declared *form; /* the simple form that its schema was made of, if another judge has it; else NULL */
     struct scope scope; /* the namespaces that are declared at the last start; once the document is invalid, there */

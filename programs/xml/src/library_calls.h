@@ -2,7 +2,6 @@
 #ifndef LIBRARY_CALLS_H
 #define LIBRARY_CALLS_H
 
-#include "controls.h"
 #include "events.h"
 
 #include <rncv.h>
@@ -11,15 +10,10 @@
 struct call_room {
     rncv_attribute *attributes;
     size_t capacity;
-    const struct stand_ins *stand_ins; /* for control characters of XML 1.1, which texts and values may have; NULL: they have none */
-    struct bytes values; /* those that have other characters in their place */
 };
 
 /* Makes room for so many attributes. False: out of memory. */
 OUT_OF_LINE bool call_room_grow(struct call_room *room, size_t count);
-
-/* Puts characters that the library takes in the place of the control characters in the values of the room. False: out of memory. */
-OUT_OF_LINE bool call_room_replace(struct call_room *room, size_t count);
 
 static inline const uint8_t *bytes_of_span(struct span span) {
     return (const uint8_t *)span.data;
@@ -35,7 +29,7 @@ static inline bool call_room_fill(struct call_room *room, const struct event_att
         *to = (rncv_attribute){bytes_of_span(from->name.uri), from->name.uri.length, bytes_of_span(from->name.local), from->name.local.length,
                                bytes_of_span(from->value), from->value.length};
     }
-    return room->stand_ins == NULL || call_room_replace(room, count);
+    return true;
 }
 
 /* Passes a start, with this number as its place. The status is that of rncv_events_start. */
@@ -68,12 +62,6 @@ static inline int32_t library_tag_options(rncv_schema *schema, const struct even
 static inline int32_t library_text(rncv_schema *schema, struct span text) {
     return rncv_events_text(schema, (const uint8_t *)text.data, text.length);
 }
-
-/* Puts such characters into the room for a text that has control characters; the text is then there, until the room is used again. False: out of memory. */
-bool call_room_text(struct call_room *room, struct span *text);
-
-/* Passes a text that may have control characters. RNCV_MEMORY: also if there is no room. */
-int32_t library_any_text(rncv_schema *schema, struct call_room *room, struct span text);
 
 void call_room_free(struct call_room *room);
 

@@ -9,7 +9,6 @@ enum { MOST_BYTES = 1048576 /* of a text */ };
 /* A text that is judged by a schema of lists. */
 struct list_search {
     rncv_schema schema;
-    struct call_room *room;
     uint64_t since; /* the place after which nothing valid can follow; 0: none is known */
 };
 
@@ -62,7 +61,7 @@ static enum list_fault_kind pass_token(struct list_search *search, struct span t
     if (search->since > 0) {
         return LIST_LONG;
     }
-    bool is_passed = library_any_text(&search->schema, search->room, token) == RNCV_DONE && rncv_events_end(&search->schema, 1) == RNCV_DONE;
+    bool is_passed = library_text(&search->schema, token) == RNCV_DONE && rncv_events_end(&search->schema, 1) == RNCV_DONE;
     return !is_passed || !look(search) ? LIST_UNKNOWN : search->since > 0 ? LIST_WRONG : LIST_GOOD;
 }
 
@@ -95,7 +94,7 @@ static void pass_tokens(struct list_search *search, const struct list_text *text
 
 /* Finds the fault by a schema of lists. */
 static void find_by(struct judge *judge, const struct bytes *schema, const struct list_text *text, struct list_fault *fault) {
-    struct list_search search = {RNCV_NOTHING, &judge->room, 0};
+    struct list_search search = {RNCV_NOTHING, 0};
     rncv_file file = {(const uint8_t *)"", 0, (const uint8_t *)schema->data, schema->length};
     rncv_fault place;
     if (rncv_compile_with(&file, 1, judge->shared->datatypes, &search.schema, &place) == RNCV_DONE && rncv_events_begin(&search.schema) == RNCV_DONE &&

@@ -138,11 +138,7 @@ static void release(void *block) {
     free(block);
 }
 
-#if LIBXML_VERSION >= 21200
-static void ignore(void *context, const xmlError *error) {
-#else
 static void ignore(void *context, xmlError *error) {
-#endif
     (void)context;
     (void)error;
 }
@@ -172,9 +168,6 @@ static void prepare(void) {
  * made here. To report that there is none, libxml2 needs these values too, and tries again without an end. So the block is taken and freed before: malloc
  * gives a thread the block of this size that it has freed last. */
 static bool prepare_thread(void) {
-#if LIBXML_VERSION >= 21200
-    return xmlCheckThreadLocalStorage() == 0;
-#else
     if (xmlIsMainThread()) {
         return true;
     }
@@ -184,7 +177,6 @@ static bool prepare_thread(void) {
     }
     free(room);
     return xmlGetGlobalState() != NULL;
-#endif
 }
 
 bool parser_memory_prepare(void) {

@@ -19,11 +19,6 @@ bool is_malformed(parser_error *error) {
     return error->level >= XML_ERR_ERROR && error->code != XML_ERR_INVALID_URI && !is_of_validity(error);
 }
 
-bool takes_prefix_back(const parser_error *error) {
-    bool is_of_tag = error->domain == XML_FROM_NAMESPACE && error->code == XML_NS_ERR_XML_NAMESPACE && error->str1 != NULL;
-    return is_of_tag && strstr(known(error->message), "Empty XML namespace") != NULL;
-}
-
 bool is_about_group(const parser_error *error) {
     return error->code == XML_ERR_ENTITY_BOUNDARY && strstr(known(error->message), "content declaration") != NULL;
 }

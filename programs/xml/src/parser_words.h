@@ -6,20 +6,13 @@
 
 #include <libxml/parser.h>
 
-#if LIBXML_VERSION >= 21200
-typedef const xmlError parser_error;
-#else
 typedef xmlError parser_error;
-#endif
 
 /* Whether it is an error of validity, which is no error here. */
 bool is_of_validity(parser_error *error);
 
 /* Whether the error makes the document malformed: it breaks XML 1.0, or Namespaces in XML in a way that is not found by the names of tags. */
 bool is_malformed(parser_error *error);
-
-/* Whether a tag takes a prefix back, the first of the error's strings. Namespaces in XML 1.1 allows that. */
-bool takes_prefix_back(const parser_error *error);
 
 /* Whether it is about a group of a content model that begins in one text and ends in another. */
 bool is_about_group(const parser_error *error);

@@ -268,7 +268,7 @@ bool rng_tree_open(struct rng_tree *tree, const struct vocabulary *vocabulary, c
     tree->declaration_count = 1;
     reading->tree = tree;
     reading->fault = fault;
-    convert(source, &(struct pyx_sink){take_piece, take_note, reading, true}, fault);
+    convert(source, &(struct pyx_sink){take_piece, take_note, reading}, fault);
     is_good = fault->kind == FAULT_NONE && take_lines(reading);
     if (tree->note.failed) {
         is_good = out_of_memory(fault);

@@ -73,8 +73,3 @@ bool rng_convert(const struct rng_request *request, struct rng_text *text, struc
     rng_tree_close(&tree);
     return is_good;
 }
-
-void rng_text_free(struct rng_text *text) {
-    bytes_free(&text->text);
-    origins_free(&text->origins);
-}

@@ -29,6 +29,4 @@ struct rng_request {
 };
 bool rng_convert(const struct rng_request *request, struct rng_text *text, struct fault *fault);
 
-void rng_text_free(struct rng_text *text);
-
 #endif

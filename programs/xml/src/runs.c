@@ -4,12 +4,12 @@
 
 enum {
     WORDS_OF_LIST = 2, /* before the attributes: `ATTLIST` and the name of the element */
-    DELETE = 0x7F      /* the first of the control characters that XML 1.0 allows as they are, and XML 1.1 does not */
+    DELETE = 0x7F
 };
 
 /* Whether the code is that of a character that is in values and identifiers as it is. */
-static bool is_plain(const struct run_scan *scan, uint32_t code) {
-    return code >= (scan->is_1_1 ? 0xA0 : DELETE) && code != 0xFFFE && code != 0xFFFF;
+static bool is_plain(uint32_t code) {
+    return code >= DELETE && code != 0xFFFE && code != 0xFFFF;
 }
 
 static bool is_letter_or_digit(char byte) {
@@ -70,7 +70,7 @@ static bool goes_on_with(const struct run_scan *scan, uint32_t code) {
         case RUN_SYSTEM:
         case RUN_VALUE:
         case RUN_ENTITY:
-            return is_plain(scan, code);
+            return is_plain(code);
         case RUN_NONE:
         case RUN_BLANKS:
         case RUN_ZEROS:
@@ -224,7 +224,7 @@ static void look_in_literal(struct run_scan *scan, char byte) {
 }
 
 void runs_restart(struct run_scan *scan, uint64_t offset) {
-    *scan = (struct run_scan){.looked = offset, .is_1_1 = scan->is_1_1};
+    *scan = (struct run_scan){.looked = offset};
 }
 
 /* Looks at the byte between declarations, or at the beginning of one. */

@@ -42,7 +42,6 @@ struct run_scan {
     enum run_part part;
     enum run_reference reference;
     uint64_t behind;       /* where the reference in content ends that was read; 0: none was */
-    bool is_1_1;           /* the document is XML 1.1 */
     bool is_joined;        /* a colon is directly before */
     bool is_entity;        /* this is the declaration of one */
     bool is_list;          /* this is the declaration of attributes */

@@ -81,7 +81,7 @@ static bool is_line(const char *line, const char *text) {
 static bool xml_of(const char *bytes, size_t length, enum writing *writing) {
     struct reading reading = {{bytes, length}, NO_BYTES};
     struct fault fault = NO_FAULT;
-    convert(&(struct byte_source){give, &reading, NULL}, &(struct pyx_sink){take, drop_note, &reading, false}, &fault);
+    convert(&(struct byte_source){give, &reading, NULL}, &(struct pyx_sink){take, drop_note, &reading}, &fault);
     const char *uri = root_namespace(bytes_text(&reading.lines));
     *writing = is_line(uri, "http://relaxng.org/ns/structure/1.0") ? WRITING_RELAX_NG
                : is_line(uri, "http://www.w3.org/2001/XMLSchema")  ? WRITING_XML_SCHEMA

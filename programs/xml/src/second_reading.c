@@ -2,7 +2,6 @@
 
 #include "alone.h"
 #include "contexts.h"
-#include "judge_forms.h"
 #include "text_table.h"
 
 #include <stdlib.h>
@@ -53,8 +52,6 @@ struct second_pass {
 static void open_judge(struct judge *own, struct second *second, const struct judge *judge) {
     own->shared = judge->shared;
     own->form = &second->whole.declared;
-    own->controlled = judge->controlled;
-    own->is_controlled = judge->is_controlled;
 }
 
 /* Makes the judges, by the attributes of the schema itself. Where that fails they are not there. */
@@ -65,7 +62,7 @@ static struct second *new_second(struct judge *judge) {
     }
     open_judge(&second->whole, second, judge);
     open_judge(&second->content, second, judge);
-    second->alone = judge_alone(judge);
+    second->alone = judge->shared->alone;
     second->is_there = declared_open(&second->whole.declared, &judge->schema) &&
                        alone_schemas_share(second->alone, &second->whole.declared, true, &second->whole.schema) &&
                        contexts_open(&second->contexts, &second->whole.declared);
@@ -346,27 +343,6 @@ static size_t held(const void *context) {
     return pass->held + (pass->depth == 0 ? 0 : element_held(&pass->second->elements[pass->depth - 1]));
 }
 
-/* Sets what stands in for control characters. NULL: the document has none. */
-static void set_stand_ins(struct second *second, const struct stand_ins *stand_ins) {
-    second->whole.room.stand_ins = stand_ins;
-    second->content.room.stand_ins = stand_ins;
-}
-
-/* The first reading has taken them. */
-static const char *take_control(void *context, struct span text) {
-    const struct second_pass *pass = context;
-    (void)text;
-    set_stand_ins(pass->second, judge_stand_ins(pass->judge));
-    return NULL;
-}
-
-/* The first reading has asked the schema. */
-static const char *spelling(void *context) {
-    const struct second_pass *pass = context;
-    const char *text = pass->judge->controls.spelling;
-    return text[0] == '\0' ? NULL : text;
-}
-
 static void read_again(struct second_pass *pass, const struct shared *shared, const struct byte_source *source) {
     struct fault fault = NO_FAULT;
     struct event_sink sink = {.start = take_start,
@@ -375,8 +351,6 @@ static void read_again(struct second_pass *pass, const struct shared *shared, co
                               .instruction = take_instruction,
                               .note = take_note,
                               .held = held,
-                              .control = take_control,
-                              .spelling = spelling,
                               .context = pass,
                               .checks_names = true,
                               .depth = shared->depth,
@@ -411,7 +385,6 @@ void second_reading(struct judge *judge, const struct byte_source *source, uint6
     }
     struct second_pass pass = {.second = judge->second, .first = answer, .first_number = number, .most = judge->shared->most_faults - 1,
                                .judge = judge};
-    set_stand_ins(judge->second, judge->room.stand_ins);
     read_again(&pass, judge->shared, source);
     give_hints(&pass, answer);
 }

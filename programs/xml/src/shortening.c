@@ -185,8 +185,7 @@ void shortening_leave_given(struct shortening *shortening, size_t length, struct
 size_t shortening_leave_reference(struct shortening *shortening, struct span text) {
     struct bytes *to = &shortening->text;
     size_t before = to->length;
-    bool has_marks = shortening->has_marks;
-    size_t length = shortening->scan.kind == RUN_ENTITY ? entity_text_kept(text, has_marks, to) : entity_text_character(text, has_marks, to);
+    size_t length = shortening->scan.kind == RUN_ENTITY ? entity_text_kept(text, to) : entity_text_character(text, to);
     if (length == 0 || to->failed) {
         to->length = to->failed ? to->length : before;
         return 0;

@@ -17,7 +17,7 @@
 enum {
     LOOKED_BYTES = LONGEST_NAME / 2, /* of markup, before it is looked at: libxml2 gets fewer than the others at once. The feed keeps more */
     KEPT_BYTES = 8192,               /* of a run or a literal that libxml2 always gets, so that it is in there when the rest is left out */
-    KEPT_ZEROS = 16,                 /* the last of a reference, so that there is room for another number, or the mark of a control character */
+    KEPT_ZEROS = 16,                 /* the last of a reference, so that there is room for another number */
     IN_PLACE_BYTES = 64              /* more than libxml2 gets in the place of what is left out */
 };
 
@@ -45,7 +45,6 @@ struct shortening {
     struct bytes whole;  /* room for the values of a tag that are written again */
     expand_reference *expand; /* with this .. */
     void *context;            /* .. context */
-    bool has_marks;      /* references to control characters become marks (controls.h) */
     bool failed;         /* memory ran out */
 };
 

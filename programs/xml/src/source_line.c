@@ -1,80 +1,37 @@
 #include "source_line.h"
 
 #include "paths.h"
-#include "xml_declaration.h"
 
 #include <stdio.h>
 
 enum {
     MOST_BYTES = 65536,   /* of a line */
-    MOST_DECLARATION = 1024, /* bytes of an XML declaration that is looked at */
     SHOWN_CHARACTERS = 96, /* of it .. */
     SHOWN_BEFORE = 64      /* .. and at most so many before the column */
 };
 
-/* A file whose lines are read. */
-struct lines {
-    FILE *file;
-    bool is_1_1; /* it is XML 1.1, in which lines have further ends (2.11 of XML 1.1) */
-};
-
-/* Opens the lines of a file, which is at its begin. */
-static struct lines lines_of(FILE *file) {
-    char start[MOST_DECLARATION];
-    size_t length = fread(start, 1, sizeof start, file);
-    size_t mark = length >= 3 && memcmp(start, "\xEF\xBB\xBF", 3) == 0 ? 3 : 0;
-    struct xml_declaration declaration = xml_declaration_of((struct span){start + mark, length - mark}, false);
-    rewind(file);
-    return (struct lines){file, declaration.is_there && is_named(declaration.version, "1.1")};
-}
-
-/* Takes bytes, if they come next. */
-static bool take(FILE *file, const char *bytes) {
-    long before = ftell(file);
-    while (*bytes != '\0' && getc(file) == (unsigned char)*bytes) {
-        bytes++;
-    }
-    bool is_there = *bytes == '\0';
-    if (!is_there) {
-        fseek(file, before, SEEK_SET);
-    }
-    return is_there;
-}
-
-/* Takes the rest of a line end that begins with a carriage return. */
-static void take_after_return(const struct lines *lines) {
-    int after = getc(lines->file);
-    if (after != '\n' && after != EOF) {
-        ungetc(after, lines->file);
-    }
-    if (lines->is_1_1 && after == 0xC2) {
-        take(lines->file, "\xC2\x85");
-    }
-}
-
 /* The next byte of the file, and a line feed for each line end: LF, CR, or both. */
-static int next_byte(const struct lines *lines) {
-    int byte = getc(lines->file);
-    if (byte == '\r') {
-        take_after_return(lines);
-        return '\n';
+static int next_byte(FILE *file) {
+    int byte = getc(file);
+    int after = byte == '\r' ? getc(file) : '\n';
+    if (after != '\n' && after != EOF) {
+        ungetc(after, file);
     }
-    bool is_end = lines->is_1_1 && ((byte == 0xC2 && take(lines->file, "\x85")) || (byte == 0xE2 && take(lines->file, "\x80\xA8")));
-    return is_end ? '\n' : byte;
+    return byte == '\r' ? '\n' : byte;
 }
 
 /* Reads over the lines before this one. */
-static void skip_lines(const struct lines *lines, uint64_t count) {
+static void skip_lines(FILE *file, uint64_t count) {
     int byte = '\0';
     while (count > 0 && byte != EOF) {
-        byte = next_byte(lines);
+        byte = next_byte(file);
         count -= byte == '\n';
     }
 }
 
 /* Reads a line without its end. False: it is too long. */
-static bool read_line(const struct lines *lines, struct bytes *line) {
-    for (int byte = next_byte(lines); byte != '\n' && byte != EOF; byte = next_byte(lines)) {
+static bool read_line(FILE *file, struct bytes *line) {
+    for (int byte = next_byte(file); byte != '\n' && byte != EOF; byte = next_byte(file)) {
         if (line->length == MOST_BYTES) {
             return false;
         }
@@ -128,9 +85,8 @@ void add_source_line(struct bytes *to, const char *path, struct place place) {
     if (file == NULL) {
         return;
     }
-    struct lines lines = lines_of(file);
-    skip_lines(&lines, place.line - 1);
-    bool is_whole = read_line(&lines, &line);
+    skip_lines(file, place.line - 1);
+    bool is_whole = read_line(file, &line);
     bool has_mark = place.line == 1 && line.length >= 3 && memcmp(line.data, "\xEF\xBB\xBF", 3) == 0;
     bytes_cut_front(&line, has_mark ? 3 : 0);
     bool is_shown = is_whole && !line.failed && line.length > 0 && is_utf_8(line.data, line.length) && memchr(line.data, '\0', line.length) == NULL;

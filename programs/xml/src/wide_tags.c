@@ -30,8 +30,8 @@ static bool is_declaration(struct span name) {
 }
 
 /* The length of the value at the start of the text, up to its quote; that of the text if this is not there. What may not be in a value ends it too. */
-static size_t value_length(struct span text, char quote, bool is_1_1) {
-    const struct run_scan value = {.kind = RUN_VALUE, .quote = quote, .is_1_1 = is_1_1};
+static size_t value_length(struct span text, char quote) {
+    const struct run_scan value = {.kind = RUN_VALUE, .quote = quote};
     size_t at = run_length(&value, text);
     while (at < text.length && text.data[at] == '&') {
         at += 1 + run_length(&value, span_from(text, at + 1));
@@ -46,7 +46,7 @@ static size_t behind_equals(struct span text, size_t at) {
     return is_there ? at + 1 + blanks_of(span_from(text, at + 1)) : at < text.length ? 0 : at;
 }
 
-struct attribute_text attribute_at(struct span text, bool is_1_1) {
+struct attribute_text attribute_at(struct span text) {
     static const struct attribute_text none = {0, false, {"", 0}, {"", 0}};
     static const struct attribute_text cut = {0, true, {"", 0}, {"", 0}};
     size_t colon = 0;
@@ -65,7 +65,7 @@ struct attribute_text attribute_at(struct span text, bool is_1_1) {
     if (quote == 0 || (text.data[quote] != '"' && text.data[quote] != '\'') || !is_qname(name, &colon) || is_declaration(name)) {
         return none;
     }
-    struct span value = {text.data + quote + 1, value_length(span_from(text, quote + 1), text.data[quote], is_1_1)};
+    struct span value = {text.data + quote + 1, value_length(span_from(text, quote + 1), text.data[quote])};
     size_t end = quote + 1 + value.length;
     if (end >= text.length) {
         return cut;
@@ -86,7 +86,7 @@ static bool add_value(struct bytes *to, struct span value, const struct referenc
         size_t length = plain_length(value);
         is_good = entity_text_decoded((struct span){value.data, length}, to);
         value = span_from(value, length);
-        length = value.length == 0 ? 0 : entity_text_character(value, reader->has_marks, to);
+        length = value.length == 0 ? 0 : entity_text_character(value, to);
         if (value.length > 0 && length == 0 && is_good) {
             length = reader->expand(reader->context, value, to);
         }

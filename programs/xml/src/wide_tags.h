@@ -40,13 +40,12 @@ struct attribute_text {
 };
 
 /* In a document of XML 1.0 or 1.1. */
-struct attribute_text attribute_at(struct span text, bool is_1_1);
+struct attribute_text attribute_at(struct span text);
 
 /* How references in values are read. */
 struct reference_reader {
     expand_reference *expand;
     void *context;
-    bool has_marks; /* those to control characters become marks (controls.h) */
 };
 
 /* Adds the attribute. False: its value has a reference that can not be read here, or memory ran out, and then the text has failed. */

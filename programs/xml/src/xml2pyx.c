@@ -157,7 +157,7 @@ static int run(const struct options *options, struct streams streams) {
     }
     if (source_open(&source, options->document, streams, &fault)) {
         const struct byte_source bytes = {source_read, &source, options->loads_dtd ? beside(options->document) : NULL};
-        convert(&bytes, &(struct pyx_sink){put, note, &writing, false}, &fault);
+        convert(&bytes, &(struct pyx_sink){put, note, &writing}, &fault);
         source_close(&source);
     }
     if (writing.lines.file >= 0 && close(writing.lines.file) != 0) {

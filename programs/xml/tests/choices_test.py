@@ -70,7 +70,7 @@ class Lists:
         entity = re.sub('[%&"]', "x", self.list())
         text = f"<!DOCTYPE r [<!ENTITY % p \"<!ATTLIST p a {entity} 'x  y'>\">{' ' * self.chance.randrange(CUT)}{declared}]>\n<r a=' b  c '>\n<p/>x</r>\n"
         text = text if self.chance.random() < 0.9 else text[:self.chance.randrange(len(text))]
-        return ("<?xml version='1.1'?>" if self.chance.random() < 0.1 else "") + (text if self.chance.random() < 0.9 else text.replace("</r>", "</p>"))
+        return text if self.chance.random() < 0.9 else text.replace("</r>", "</p>")
 
 
 class Variant(InFolder):

@@ -6,7 +6,7 @@ import conversion_test
 from testing import RNCV_XML, XML2PYX, peak_of
 
 PARTS = ("<?xml", "version", "=", "'1.0'", "encoding", "=", "'{0}'", "standalone", "=", "'yes'", "?>")
-ENCODINGS = (("utf-8", "utf-8"), ("utf-8-sig", "utf-8"), ("iso-8859-1", "iso-8859-1"), ("utf-16", "utf-16"), ("utf-32", "utf-32"), ("utf-16-be", "utf-16be"))
+ENCODINGS = (("utf-8", "utf-8"), ("utf-8-sig", "utf-8"), ("iso-8859-1", "iso-8859-1"), ("utf-16", "utf-16"), ("utf-16-be", "utf-16be"))
 BLANKS = (" ", "\t", "\n", "\r", "\r\n", "\n \t", "\r\n\r", " \r")
 
 
@@ -34,13 +34,6 @@ class Declaration(conversion_test.Converted):
         for (codec, encoding), length in itertools.product(ENCODINGS, (4_095, 4_096, 4_097, 40_000)):
             runs = [blank * length for blank in (" ", "\n", "", "\r\n", "", " \r", "\t", "", "\n \t", " ")]
             self.assert_read(runs, codec, encoding)
-
-    def test_line_ends_of_other_encodings(self):
-        for length in (4_095, 5_000, 70_000):
-            runs = [" " * length, "\r\n" * length, "", "\t" * length, "\n" * length, "", " "]
-            text = declaration("cp037", runs)
-            found = self.converted(f"{text}<a>\u00fc</a>".encode("cp037"))
-            self.assertEqual((found[0], found[1][0], found[2:]), ("(a\n-\u00fc\n)a\n".encode(), (2 * length + 1, len(text) - text.rfind("\n")), ([], 0)))
 
     def test_external_entities(self):
         self.write("e.ent", f"<?xml{' ' * 90_000}encoding{' ' * 9_000}='utf-8'{' ' * 9_000}?>text")

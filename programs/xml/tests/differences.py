@@ -59,8 +59,6 @@ def is_explained(data, reported, in_python, reported_in_python):
     if in_python is not None:
         # names of Namespaces in XML. The reader of PYX refuses these too, unless they are those of instructions and of declarations
         return is_refused(in_python) or "colons are forbidden" in last or "XML declaration" in last
-    if "XML 1.1" in last_in_python:
-        return True  # the one in Python does not read it
     if "is not declared in the document itself" in last_in_python:
         return True  # by an entity that nothing refers to, or that is declared nowhere
     if "declaration behind a parameter entity" in last_in_python:

@@ -21,7 +21,6 @@ class Entities:
         self.chance = random.Random(seed)
         self.names = [f"e{at}" for at in range(self.chance.randrange(1, 6))]
         self.parameters = [f"p{at}" for at in range(self.chance.randrange(4))]
-        self.version = "1.1" if self.chance.random() < 0.2 else "1.0"
 
     def some(self, function, most=5):
         return "".join(function() for _ in range(self.chance.randrange(most)))
@@ -30,8 +29,7 @@ class Entities:
         pieces = ["x", "0123456789", "\u3042", "\n", "\t ", "]]", ">", "]", "\u00e9\u00e8", "%", "\U0001F600"]
         pieces += ["&#13;", "&#38;#10;", "&#10;", "&amp;", "&#38;lt;", "&#38;#13;", "&#9;", "&#x0000000000003042;", "&#38;#x0000000000003042;"]
         zeros = "0" * 70
-        controls = ["&#1;", "&#38;#1;", "&#127;", "&#38;#127;", "\u0085", f"&#38;#{zeros}127;A", f"&#38;#x{zeros}1;", f"&#{zeros}127;"]
-        pieces += controls if self.version == "1.1" else ["\x7f"]
+        pieces += ["&#127;", "&#38;#127;", "\u0085", f"&#38;#{zeros}127;A", f"&#{zeros}127;", "\x7f"]
         return self.chance.choice(pieces) * self.chance.choice((1, 1, 1, 3, 100, 900))
 
     def reference(self, names):
@@ -84,7 +82,7 @@ class Entities:
         alone = " standalone='yes'" if self.chance.random() < 0.1 else ""
         names = [*self.names, "f0"] if self.parameters else self.names
         content = "".join(self.content(names) for _ in range(3))
-        return f'<?xml version="{self.version}"{alone}?>\n<!DOCTYPE r [{subset}]>\n<r>{content}</r>\n'
+        return f'<?xml version="1.0"{alone}?>\n<!DOCTYPE r [{subset}]>\n<r>{content}</r>\n'
 
 
 class Included(InFolder):

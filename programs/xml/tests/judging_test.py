@@ -431,14 +431,14 @@ class Lines(InFolder):
         self.assertEqual(self.judge("-q", "e.rnc", "plain.xml"), ("", 0))
         self.assertRegex(self.judge("--strict", "e.rnc", "cut.xml")[0], r"^cut\.xml:1:\d+: malformed XML: ")
 
-    def test_strict_about_codes_of_encodings(self):
-        self.write("t.rnc", 'element a { string "\\x{E815}" }\n')
-        self.write("d.xml", b'<?xml version="1.0" encoding="GBK"?>\n<a>\xfe\x50</a>')
-        self.write("e.xml", b'<?xml version="1.0" encoding="GBK"?>\n<a>\xfe\x51</a>')
-        words = "a code of this encoding is read as Java or browsers read it; other programs read another character, or none"
-        self.assertEqual(self.run_in(RNCV_XML, "--all", "t.rnc", "d.xml"), ("d.xml: valid\n", f"d.xml:2:4: note: {words}\n", 0))
-        self.assertEqual(self.judge("-q", "t.rnc", "e.xml"), ("", 1))
-        self.assertEqual(self.judge("--all", "--strict", "t.rnc", "d.xml", "e.xml"), (f"d.xml:2:4: {words}\ne.xml:2:4: {words}\n", 2))
+    def test_strict_about_iconv(self):
+        self.write("t.rnc", 'element a { string "\\x{3042}" }\n')
+        self.write("d.xml", '<?xml version="1.0" encoding="EUC-JP"?>\n<a>\u3042</a>'.encode("euc-jp"))
+        self.write("e.xml", '<?xml version="1.0" encoding="ISO-8859-1"?>\n<a>\u00e9</a>'.encode("latin-1"))
+        words = "the encoding 'EUC-JP' is read by iconv: other programs may read other characters"
+        self.assertEqual(self.run_in(RNCV_XML, "--all", "t.rnc", "d.xml"), ("d.xml: valid\n", f"d.xml:1:1: note: {words}\n", 0))
+        self.assertEqual(self.judge("-q", "--strict", "t.rnc", "e.xml"), ("", 1))
+        self.assertEqual(self.judge("--all", "--strict", "t.rnc", "d.xml"), (f"d.xml:1:1: {words}\n", 2))
 
     def test_the_words_of_today(self):
         self.assertEqual(self.judge("--all", "s.rnc", "--", "good.xml"), ("good.xml: valid\n", 0))
@@ -456,7 +456,7 @@ class Batches(InFolder):
     def setUp(self):
         super().setUp()
         self.write("bogus.xml", '<?xml version="1.0" encoding="bogus"?><a/>')
-        self.write("utf7.xml", '<?xml version="1.0" encoding="UTF-7"?><a/>')
+        self.write("new.xml", '<?xml version="1.1"?><a/>')
         self.write("dashes.xml", "<a>-- - -")
         self.write("comment.xml", "<a><!-- -- - --></a>")
         self.write("empty.xml", "")
@@ -464,7 +464,7 @@ class Batches(InFolder):
         (self.folder / "folder.xml").mkdir()
         for encoding in ("Shift_JIS", "EUC-JP", "GB18030"):
             self.write(f"{encoding}.xml", f'<?xml version="1.0" encoding="{encoding}"?><a x="\u3042"/>'.encode(encoding))
-        self.names = ("bogus.xml", "utf7.xml", "dashes.xml", "comment.xml", "empty.xml", "nul.xml", "folder.xml", "none.xml", "Shift_JIS.xml",
+        self.names = ("bogus.xml", "new.xml", "dashes.xml", "comment.xml", "empty.xml", "nul.xml", "folder.xml", "none.xml", "Shift_JIS.xml",
                       "EUC-JP.xml", "GB18030.xml", "good.xml")
 
     def test_a_fault_of_one_document_is_its_own(self):
@@ -473,7 +473,8 @@ class Batches(InFolder):
             lines = out.splitlines()
             self.assertEqual((status, len(lines)), (4, len(self.names)))
             self.assertEqual(lines[:2] + lines[4:5] + lines[6:], [
-                "bogus.xml:1:1: the encoding 'bogus' is not served", "utf7.xml:1:1: the encoding 'UTF-7' is not served",
+                "bogus.xml:1:1: the encoding 'bogus' is not read: outside the profile; iconv -f .. -t UTF-8 may write it as UTF-8",
+                "new.xml:1:1: outside the profile: XML 1.1 is not read",
                 "empty.xml:1:1: malformed XML: no root element", "folder.xml: it is a folder: --recursive judges the documents in folders",
                 "none.xml: No such file or directory", "Shift_JIS.xml: valid", "EUC-JP.xml: valid", "GB18030.xml: valid", "good.xml: valid"])
             self.assertNotIn("Traceback", out)
@@ -664,7 +665,7 @@ class Formats(InFolder):
         self.assertEqual(self.judge("--source", "s.rnc", "bad.xml")[0], plain + shown)
         self.assertEqual(self.judge("--source", "--no-source", "s.rnc", "bad.xml")[0], plain)
         self.assertEqual(self.judge("--source", "s.rnc", "-", given=b"<b/>")[0].count("\n"), 1)
-        self.write("new.xml", '<?xml version="1.1"?>\u0085<a x="1"><b/>\r\u0085\u2028\r  <c/>\u0085</a>')
+        self.write("new.xml", '<?xml version="1.0"?>\r<a x="1"><b/>\r\n\r\r  <c/>\r</a>')
         self.assertEqual(self.judge("--source", "s.rnc", "new.xml")[0], plain.replace("bad.xml:3:3", "new.xml:5:3") + shown)
         for more, wanted in (({}, colored + shown), ({"NO_COLOR": "1"}, plain + shown), ({"TERM": "dumb"}, plain + shown)):
             # without a terminal for errors, on which a slow run shows its progress

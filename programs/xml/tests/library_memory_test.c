@@ -69,7 +69,7 @@ static const char *const documents[] = {
     "<a><b></a>",
     "<a x='1' i='p' xmlns:n='u'><b r='q'/><b r='p'/></a>",
     "<a x='1' i='-'/>",
-    "<?xml version='1.1'?><!DOCTYPE a [<!ENTITY e '&#2;'><!ENTITY t '&#38;#9;'>]><a x='1&e;&#1;' xmlns:n='u&t;'>&e;<b/>&#3;</a>",
+    "<!DOCTYPE a [<!ENTITY e '2'><!ENTITY t '&#38;#9;'>]><a x='1&e;' xmlns:n='u&t;'>&e;<b/>3</a>",
     "<a x='1' l='1 3'/>",
     "<!DOCTYPE a [<!ENTITY % p '<!ENTITY e \"<b/>a text of more than sixty bytes, with a carriage return&#38;#13;.\"><!-- a comment -->'>%p;"
     "<!ENTITY f '&e;'>]><a x='1'>&f;text&e;</a>",
@@ -121,35 +121,6 @@ static bool refuse_in_document(rncv_xml_judge *judged, size_t at, long after, co
     bool is_same = kept.verdict == wanted->verdict && strcmp(kept.message, wanted->message) == 0 && strcmp(kept.token, wanted->token) == 0;
     check(status == RNCV_DONE && is_same, "the next document", after);
     return was_refused;
-}
-
-/* A document of XML 1.1 that is judged by another form of its schema. */
-static const size_t formed = 7;
-
-static void open_for_form(rncv_xml_judge *judged) {
-    check(rncv_xml_judge_open_with("form.rnc", NULL, 0, RNCV_DATATYPES_XML_SCHEMA, judged, NULL) == RNCV_DONE, "open for the form", -1);
-}
-
-/* Judges it with growths refused, by a new judge, which makes the form. False: nothing was refused. */
-static bool refuse_in_form(long after, const struct kept *wanted) {
-    rncv_xml_judge judged = RNCV_XML_NOTHING;
-    open_for_form(&judged);
-    bool was_refused = refuse_in_document(&judged, formed, after, wanted);
-    rncv_xml_judge_free(&judged);
-    return was_refused;
-}
-
-static void refuse_form(void) {
-    rncv_xml_judge judged = RNCV_XML_NOTHING;
-    struct kept wanted;
-    long after = 0;
-    open_for_form(&judged);
-    check(judge(&judged, formed, &wanted) == RNCV_DONE && wanted.verdict == RNCV_XML_INVALID, "the form", -1);
-    while (after < MOST && refuse_in_form(after, &wanted)) {
-        after++;
-    }
-    check(after > 20 && after < MOST, "some growths of a form are refused", after);
-    rncv_xml_judge_free(&judged);
 }
 
 /* Opens, shares and frees a judge with growths refused. False: nothing was refused. */
@@ -259,7 +230,6 @@ static void refuse_each(rncv_xml_judge *judged) {
     long after = 0;
     refuse_annotations();
     refuse_hints();
-    refuse_form();
     while (after < MOST && refuse_in_opening(after)) {
         after++;
     }
@@ -286,7 +256,6 @@ int main(int count, char **words) {
     write_file("part.rnc", "a = element a { attribute x { '1' }, l?, attribute i { xsd:NCName { minLength = '000000001' } }?, (text | b)* }\n"
                            "b = element b { l?, attribute r { xsd:NCName { minLength = '00000001' } }? }\nl = attribute l { list { '1', '2' } }\n"
                            "# rncv-profile: 2 ID-types marked, see s.profile.txt\n");
-    write_file("form.rnc", "element a { attribute x { xsd:string { pattern = '[!-\\x{10FFFF}]*' } } }\n");
     write_file("lost.rnc", "include 'none.rnc'\n");
     write_file("named.rnc", "namespace a = 'a' [ a:x = '' a:x = '' ] element a { empty }\n");
     write_file("hinted.rnc", "element a { attribute b { text }, attribute b { text } }\n");

@@ -285,7 +285,6 @@ class Lists(InFolder):
         integers = "element a { attribute v { list { xsd:integer+ } } }"
         for token, said in (("&quot;", r'"\""'), ("&#xe9;", '"\u00e9"'), ("&amp;", '"&"'), ("'", '"\'"'), ("1&#xA0;2", '"1\u00a02"'), ("x&#13;3&#9;4", '"x"')):
             self.assertEqual(self.message(integers, f'<a v="1 {token} 2"/>'), f": {said} is not allowed here; expected xsd:integer)")
-        self.assertIn(" is not allowed here; expected xsd:integer)", self.message(integers, '<?xml version="1.1"?><a v="1 &#1; 2"/>'))
 
     def test_json(self):
         self.message("element a { element b { list { xsd:integer, xsd:integer } }+ }", "<a><b>1 x</b><b>1 2 3</b><b>1</b><b/></a>")

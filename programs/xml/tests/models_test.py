@@ -182,19 +182,9 @@ class Texts(Models):
                   f"<!ENTITY e \"<!ELEMENT a {wrong}>\">", f"<!ENTITY e '\"<!ELEMENT a {wrong}'>", f"<!ENTITY % p '<!ELEMENT a {wrong}>'>",
                   f"<!ENTITY f SYSTEM \"<!ELEMENT {wrong}\" NDATA n>", "<!NOTATION n SYSTEM '<!ELEMENT'>", f"<!ATTLIST a b CDATA '{wrong}'>",
                   "<!ATTLIST a c (x|y) 'x' d NOTATION (n) #IMPLIED>", f"<!ELEMENT c {inside(3000)}>", "<!ELEMENT d EMPTY>", "<!ELEMENT g (#PCDATA|b|c)*>")
-        for version in ("1.0", "1.1"):
-            for other in others:
-                for model, status in ((inside(40), 0), (wrong, 2)):
-                    document = f"<?xml version='{version}'?><!DOCTYPE a [{other}<!ELEMENT a {model}>{other}]><a/>"
-                    self.assertEqual(self.answer(document)[1], status, (other[:40], version))
-
-    def test_control_characters(self):
-        """A model is read in a document of XML 1.1 with references to such characters."""
-        model = inside(3000, "b\u2028|c")
-        document = f"<?xml version='1.1'?><!DOCTYPE a [<!ENTITY e '&#1;<!ELEMENT'>\u0085<!ELEMENT a {model}>]><a/>"
-        self.assertEqual(self.answer(document), ("", 0))
-        for wrong in ("b&#1;", "&#1;", "(b|&#1;)", "(b)&#1;", "b&#127;"):
-            self.assertRegex(self.answer(document.replace("b\u2028|c", wrong))[0], "^2:30[0-9]+: malformed XML: ContentDecl", wrong)
+        for other in others:
+            for model, status in ((inside(40), 0), (wrong, 2)):
+                self.assertEqual(self.answer(f"<!DOCTYPE a [{other}<!ELEMENT a {model}>{other}]><a/>")[1], status, other[:40])
 
     def test_cuts(self):
         """The text comes to libxml2 in pieces, which end anywhere."""

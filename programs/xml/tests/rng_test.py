@@ -141,7 +141,7 @@ REFUSED = (
     ("<text @ xmlns:p='u' xmlns:q='u' p:a='' q:a=''/>", "1:1: malformed XML: there are two attributes 'a'"),
     ("<!DOCTYPE text [<!ATTLIST text xmlns:p CDATA ''>]><text @/>", "1:{}: malformed XML: the prefix 'p' is declared as nothing"),
     ("<text @ xmlns:xml='u'/>", "1:{}: malformed XML: xml namespace prefix mapped to wrong URI"),
-    ("<?xml version='1.1'?><text @ xmlns:p=''/>", "1:22: a prefix that XML 1.1 lets an element take back: outside the profile"),
+    ("<?xml version='1.1'?><text @/>", "1:1: outside the profile: XML 1.1 is not read"),
 )
 
 

@@ -46,9 +46,8 @@ class Sections:
 
     def document(self):
         declared = f"<!DOCTYPE a [{self.comment()}<!ENTITY e 'v'>{self.instruction()}<!ELEMENT a ANY>]>" if self.chance.random() < 0.3 else ""
-        version = '<?xml version="1.1"?>' if self.chance.random() < 0.2 else ""
         content = "".join(self.chance.choice(("", " ", "x", "\n", "<b/>", "&lt;", "text" * 900)) + self.section() for _ in range(self.chance.randrange(6)))
-        return f"{version}{declared}<a>{content}{self.chance.choice(('</a>', '</a>', '</a>', '</b>', '', ']]></a>', '<![CDATA[x', '<!--'))}"
+        return f"{declared}<a>{content}{self.chance.choice(('</a>', '</a>', '</a>', '</b>', '', ']]></a>', '<![CDATA[x', '<!--'))}"
 
 
 class Variant(InFolder):

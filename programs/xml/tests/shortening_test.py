@@ -109,8 +109,7 @@ class Long:
         entities = "".join(f"<!ENTITY {name} 'v'>" for name in self.names) + ENTITIES
         if self.chance.random() < 0.5:
             declared, entities = entities, declared
-        version = '<?xml version="1.1"?>' if self.chance.random() < 0.1 else ""
-        return f"{version}<!DOCTYPE {self.chosen()} [{declared}{entities}]><r xmlns:p='u' xmlns:q='v' xmlns:{self.names[1]}='w'>{self.element(0)}</r><?{self.chosen()}?>"
+        return f"<!DOCTYPE {self.chosen()} [{declared}{entities}]><r xmlns:p='u' xmlns:q='v' xmlns:{self.names[1]}='w'>{self.element(0)}</r><?{self.chosen()}?>"
 
 
 def build(folder, *limits):
@@ -187,38 +186,16 @@ class Variant(InFolder):
                 self.assert_same(self.converted(self.tight, document), self.converted(self.whole, document), (text[:10], subset[:20], tag[:10]))
 
     def test_control_characters(self):
-        """XML 1.0 has those from U+007F on as they are. None is taken for a mark of XML 1.1, which has them by references alone."""
-        for text in ("\x7f", "\u0085", "\x7fA\x7f", "\x80\x9f\x7f?"):
+        """Those from U+007F on are there as they are, and by references."""
+        for text in ("\x7f", "\u0085", "\x7fA\x7f", "\x80\x9f\x7f?", "&#127;", "&#x7F;A&#x7f;", "&#133;x&#x0080;&#x9F;"):
             text *= 58_000 // len(text.encode())
             for subset, tag in (("", f"<r a='{text}'/>"), (f"<!ATTLIST r a CDATA '{text}' xmlns:p CDATA '{text}'>", "<r/>"),
-                                (f"<!ENTITY e '{text}'>", "<r>&e;</r>"), (f"<!NOTATION n SYSTEM '{text}'>", "<r/>"), (f"<!ATTLIST r a NMTOKENS '{text}'>", f"<r xmlns:p='{text}'/>")):
-                for head in ("", "<?xml version='1.1'?>"):
-                    document = f"{head}<!DOCTYPE r [{subset}]>{tag}"
-                    found, wanted = self.converted(self.tight, document), self.converted(self.whole, document)
-                    self.assert_same(found, wanted, document[:60])
-                    self.assertEqual(wanted[-1], 0 if not head or "\x7f" not in text and "\x80" not in text else 2)
-
-    def test_references_to_control_characters(self):
-        """XML 1.0 has references to those from U+007F on, and XML 1.1 to all."""
-        for text in ("&#127;", "&#x7F;A&#x7f;", "&#133;x&#x0080;&#x9F;", "&#1;", f"&#{'0' * 70}31;&#{'0' * 70}127;&#xB;x"):
-            text *= 58_000 // len(text)
-            for subset, tag in (("", f"<r a='{text}'/>"), (f"<!ATTLIST r a CDATA '{text}'>", "<r/>"), (f"<!ENTITY e '{text}'>", "<r>&e;</r>"),
-                                (f"<!ENTITY e '{text}'>", "<r a='&e;'/>"), ("<!ATTLIST r a NMTOKENS #IMPLIED>", f"<r a='{text}' xmlns:p='{text}'/>")):
-                for head in ("", "<?xml version='1.1'?>"):
-                    document = f"{head}<!DOCTYPE r [{subset}]>{tag}"
-                    found, wanted = self.converted(self.tight, document), self.converted(self.whole, document)
-                    if "1;" not in text or head or "ENTITY" not in subset:  # else libxml2 reads all of the literal before it finds the fault in it
-                        self.assert_same(found, wanted, (head, document[-40:], text[:9]))
-                    self.assertEqual((found[-1], wanted[-1]), (2, 2) if "1;" in text else (0, 0))
-
-    def test_the_first_reference_to_a_control_character(self):
-        """It is in a part that libxml2 does not get."""
-        head, long = "<?xml version='1.1'?>", "u" * 30_000
-        for text, status in ((long + "&#127;x", 0), (long + "&#127;&#127;A", 0), (long + "&#x1f;", 2), (long + "&#0;", 2)):
-            for subset, tag in (("", f"<r a='{text}'/>"), (f"<!ATTLIST r a CDATA '{text}'>", "<r/>"), (f"<!ENTITY e '{text}'>", "<r>&e;</r>"),
-                                (f"<!ATTLIST r xmlns CDATA '{text}'>", "<r><r/></r>"), ("", f"<r xmlns:p='{text}' p:a='v'/>")):
-                is_good = self.assert_equal(f"{head}<!DOCTYPE r [{subset}]>{tag}", (text[-9:], subset, tag[:9]))
-                self.assertTrue("xmlns" in subset + tag or is_good == (status == 0))
+                                (f"<!ENTITY e '{text}'>", "<r>&e;</r>"), (f"<!ENTITY e '{text}'>", "<r a='&e;'/>"),
+                                (f"<!ATTLIST r a NMTOKENS '{text}'>", f"<r xmlns:p='{text}'/>")):
+                document = f"<!DOCTYPE r [{subset}]>{tag}"
+                found, wanted = self.converted(self.tight, document), self.converted(self.whole, document)
+                self.assert_same(found, wanted, document[:60])
+                self.assertEqual(wanted[-1], 0)
 
     def test_references_to_entities_in_literals(self):
         """They stay as they are, by whatever name. One that is no name is a fault, which is found where it is."""
@@ -355,9 +332,8 @@ class Whole(InFolder):
 
     def test_namespaces(self):
         long = "u" * 34_000_000
-        for head, end, other, wanted in (("", "", "", "malformed"), ("", "", "v", "valid"), ("<?xml version='1.1'?>", "&#127;", "&#x7f;", "malformed"),
-                                         ("<?xml version='1.1'?>", "&#127;A", "&#127;", "valid")):
-            self.assertIn(wanted, self.judged(f"{head}<r xmlns:a='{long}{other}' xmlns:b='{long}{end}' a:c='' b:c=''><a:r/></r>")[0])
+        for end, other, wanted in (("", "", "malformed"), ("", "v", "valid"), ("&#127;", "&#x7f;", "malformed")):
+            self.assertIn(wanted, self.judged(f"<r xmlns:a='{long}{other}' xmlns:b='{long}{end}' a:c='' b:c=''><a:r/></r>")[0])
 
     def test_a_namespace_in_two_forms(self):
         long = "u" * 5_000
@@ -365,17 +341,6 @@ class Whole(InFolder):
         for other, wanted in ((long, "malformed"), (long + "v", "valid")):
             document = f"<!DOCTYPE r [{entities}]><r b='&big;' xmlns:p='&e;' xmlns:q='{other}' xmlns:s='&e;'><r p:a='' q:a=''/><r s:a='' q:b=''/></r>"
             self.assertIn(wanted, self.judged(document)[0])
-
-    def test_control_characters_of_values(self):
-        """Parts that libxml2 does not get have them too."""
-        places = (("", "<r a='{}'/>"), ("<!ATTLIST r a CDATA '{}'>", "<r/>"), ("<!ENTITY e '{}'>", "<r a='&e;'/>"))
-        for version, text, length in (("1.1", "&#1;&#127;A&#127;", 4), ("1.0", "&#127;A&#127;&#133;", 4)):
-            count = 36_000_000 // len(text)
-            self.write("s.rnc", f"element r {{ attribute a {{ xsd:string {{ length = '{length * count + 1}' }} }} }}")
-            for subset, tag in places if version == "1.1" else places[:1]:
-                for end, status in (("x", 0), ("xy", 1)):
-                    document = f"<?xml version='{version}'?><!DOCTYPE r [{subset}]>{tag}".format(text * count + end)
-                    self.assertEqual(self.judged(document, "s.rnc")[1], status, (version, subset, end))
 
     def test_values(self):
         self.write("s.rnc", "element r { attribute a { xsd:string { pattern = 'u*vb' } } }")

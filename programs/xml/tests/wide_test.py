@@ -19,7 +19,6 @@ class Wide:
         self.chance = random.Random(seed)
         self.next = 0
         self.wrong = 0.002 if self.chance.random() < 0.4 else 0
-        self.version = "1.1" if self.chance.random() < 0.15 else "1.0"
 
     def is_wrong(self):
         return self.chance.random() < self.wrong
@@ -32,7 +31,7 @@ class Wide:
 
     def value(self):
         pieces = ("x", "\u3042", " ", "\n\t", "&#10;", "&#x3042;", "&lt;", "&amp;", "&e;", "&f;", ">", "'", "{left-out:", "&#32; ", "&quot;")
-        pieces += ("&#133;", "\u0085") + (("&#1;", "&#127;", "&#x00000000001F;") if self.version == "1.1" else ("\x7f", "\u0080", "&#127;"))
+        pieces += ("&#133;", "\u0085", "\x7f", "\u0080", "&#127;")
         wrong = ("<", "&", "&none;", "&tag;", "&loop;", "&#1;", "&#0;", "&e", "\"", "\x7f", "\u0081")
         text = "".join(self.chance.choice(pieces) for _ in range(self.chance.choice((0, 1, 1, 3)))) * self.chance.choice((1, 1, 1, 1, 200))
         return text + (self.chance.choice(wrong) if self.is_wrong() else "")
@@ -58,7 +57,7 @@ class Wide:
         kinds = ("CDATA 'd'", "NMTOKENS ' d  e '", "NMTOKENS #IMPLIED")
         declared = "".join(f"<!ATTLIST r {name} {self.chance.choice(kinds)}>" for name in names if self.chance.random() < 0.3)
         root = f"<s xmlns:p='u' xmlns:q='{self.chance.choice('vu')}'>x{self.tag('>')}{self.tag('/>')}</r>{self.tag('/>')}</s>"
-        return f"<?xml version='{self.version}'?><!DOCTYPE s [{ENTITIES}{declared}]>\n{root}<?p?>"
+        return f"<!DOCTYPE s [{ENTITIES}{declared}]>\n{root}<?p?>"
 
 
 class WideTags(InFolder):
@@ -124,13 +123,6 @@ class WideTags(InFolder):
     def test_the_limit(self):
         limit = "over a limit of this program: a tag has more than 1,500 attributes and declarations (--max-attributes)\n"
         self.assertEqual(self.judged("", "", "--max-attributes", "1500"), (f"wide.xml:2:1: {limit}", 2))
-
-    def test_defaults_taken_back(self):
-        """In XML 1.1 a long tag may take back a prefix that it has by default, but not one that it declares."""
-        self.write("any.rnc", "start = any any = element * { attribute * { text }*, any* }")
-        for declared, wanted in (("xmlns:p=''", ("", 0)), ("xmlns:p='' xmlns:p='u'", ("d.xml:2:4: malformed XML: the attribute xmlns:p is there twice\n", 2))):
-            self.write("d.xml", f"<?xml version='1.1'?><!DOCTYPE r [<!ATTLIST a xmlns:p CDATA 'u'>]>\n<r><a b='{'x' * 2_500_000}' {declared}/></r>")
-            self.assertEqual(self.judge("any.rnc", "d.xml"), wanted)
 
     def test_time_is_linear(self):
         """libxml2 would take minutes for them."""
