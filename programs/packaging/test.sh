@@ -246,7 +246,7 @@ same "__version__ of the Python package" "$version" "$(sed -n 's/^__version__ = 
 if [ -f "$top/programs/lsp/rncv_lsp/__init__.py" ]; then
     same "__version__ of the language server" "$version" "$(sed -n 's/^__version__ = "\(.*\)"$/\1/p' "$top/programs/lsp/rncv_lsp/__init__.py")"
 fi
-same "PROGRAM_VERSION of programs/xml" "\"$version\"" "$(sed -n 's/^#define PROGRAM_VERSION //p' "$top/programs/xml/src/program.h")"
+same "PROGRAM_VERSION of programs/xml" "\"$version\"" "$(sed -n 's/^#define PROGRAM_VERSION //p' "$top/programs/xml/src/program/program.h")"
 for page in "$top"/man/*.[1-8]; do
     sed -n 's/\\-/-/g; 1p' "$page" | grep -q "^\.TH .* \"rncv[a-z-]* $version\" " || fail "$page: its first line does not have version $version"
 done

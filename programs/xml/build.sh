@@ -18,6 +18,8 @@ missing() { echo "programs/xml/build.sh: $1" >&2; exit 2; }
 command -v "$cc" > /dev/null || missing "no C compiler '$cc': install gcc or clang (Debian: apt-get install gcc libc6-dev), or name one by CC"
 
 mkdir -p "$folder"
+folder=$(cd "$folder" && pwd)
+[ ! -d "$library" ] || library=$(cd "$library" && pwd)
 work=$(mktemp -d "$folder/objects.XXXXXX")
 trap 'rm -rf "$work"' EXIT
 
@@ -30,7 +32,7 @@ linked=$("$top/programs/packaging/hardening.sh" program)
 
 compile() {
     for source in "$@"; do
-        $cc $flags ${CFLAGS:--O2} -I"$library/include" $parser_flags -c -o "$work/$source.o" "$here/src/$source.c"
+        (cd "$here/src" && $cc $flags ${CFLAGS:--O2} -I"$library/include" $headers $parser_flags -c -o "$work/$source.o" */"$source.c")
     done
 }
 

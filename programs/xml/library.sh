@@ -52,7 +52,7 @@ linked="$("$top/programs/packaging/hardening.sh" library) -Wl,-z,nodelete"
 set -- # the objects
 for part in $parts; do
     # shellcheck disable=SC2086
-    $cc $flags $parser_flags ${CFLAGS:--O2} -I"$here/include" -I"$library/include" -c -o "$work/$part.o" "$here/src/$part.c"
+    (cd "$here/src" && $cc $flags $headers $parser_flags ${CFLAGS:--O2} -I"$here/include" -I"$library/include" -c -o "$work/$part.o" */"$part.c")
     set -- "$@" "$work/$part.o"
 done
 

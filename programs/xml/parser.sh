@@ -1,5 +1,6 @@
 # Finds the parser of XML, libxml2. It is read by build.sh and library.sh, and sets parser_flags and parser_libs, unless the variables XML2_CFLAGS and XML2_LIBS
-# say where it is, and parser_parts: the sources that read XML, and convert it to PYX.
+# say where it is, parser_parts: the sources that read XML, and convert it to PYX, and headers: where their headers are, from the folder `src` on. The files in
+# the folders of `src` have different names. Those that include a header of libxml2 are in `reading`.
 if [ -n "${XML2_LIBS:-}" ]; then
     parser_flags=${XML2_CFLAGS:-}
     parser_libs=$XML2_LIBS
@@ -13,6 +14,7 @@ else
     parser_flags=-I/usr/include/libxml2
     parser_libs=-lxml2
 fi
+headers="-Ireading -Ijudging -Ischemas -Ixml_schemas -Iprogram -Iconverter -Ilibrary"
 parser_parts="bytes secret fault encodings xml_declaration declaration_blanks decoding markup_scan long_references models xml_names runs choices long_names left_out shortening wide_tags sections inclusions including feed entity_text entity_names entity_heights entity_balance nested_parameters declarations attribute_defaults entity_references parser_memory parser_words external shown tag_names known_names long_uris wide_names events conversion"
 
 # Whether it is there, and one of those whose tables are as the sources take them (2.9.10 to 2.11), as a program of a few lines finds in a folder.

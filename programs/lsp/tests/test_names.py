@@ -636,7 +636,7 @@ class Types(unittest.TestCase):
     """The datatypes that completions offer."""
 
     def test_datatypes(self):
-        source = (TOP / "programs/xml/src/schema_types.c").read_text(encoding="utf-8")
+        source = (TOP / "programs/xml/src/schemas/schema_types.c").read_text(encoding="utf-8")
         kinds = {"LENGTH": LENGTHS, "BARE": (), "CONTEXT": (), "INTEGER": (*BOUNDS, *DIGITS), "DECIMAL": (*BOUNDS, *DIGITS), "ORDERED": BOUNDS}
         found = {name: ("pattern", *kinds[kind]) for name, kind in re.findall(r'\{"(\w+)", TYPE_(\w+)\}', source)}
         self.assertEqual(PARAMETERS, found)

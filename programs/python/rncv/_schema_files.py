@@ -1,4 +1,4 @@
-"""Finds the files of a schema: what a file mentions is beside it, as for the program `rncv-xml` (programs/xml/src/schema_files.c). Nothing here is proved.
+"""Finds the files of a schema: what a file mentions is beside it, as for the program `rncv-xml` (programs/xml/src/schemas/schema_files.c). Nothing here is proved.
 What a file mentions, the library says. Where in the file, which only messages have, is found here."""
 
 from __future__ import annotations

@@ -20,7 +20,7 @@ import time
 
 from hints_fuzz import HERE, TOKEN, WORDS, Bench, begin, mutant, schemas, writing, written
 
-SOURCES = [HERE.parent / "src" / f"{name}.c" for name in ("schema_annotations", "annotation_names", "schema_tokens", "xml_names", "paths", "bytes")]
+SOURCES = [next(HERE.parent.glob(f"src/*/{name}.c")) for name in ("schema_annotations", "annotation_names", "schema_tokens", "xml_names", "paths", "bytes")]
 ELEMENTS = ["xml:b [ ]", "b []", "xml:b [ c = 'd' ]", "\\b [ xml:c = \"\u00e9\" ~ 'x' 'text' ~ '' d [ element [ e = '1' ] ] '[' ]",
             "xml:b [\r\n# ]\n'\u20ac' ]", "xml:b\\x{20}\\x{5B} \"\"\"]\n\"\"\" ]"]
 NOT_ELEMENTS = [">> a:b", "a:b [", "]", "[ ]", ">>", "a:b [ c d ]", "a:b [ 'c' d = 'e' ]", "> > a:b [ ]", "[ c = '' ]", "[ a:b = '' ]", "\\b [ c = '' c = '' ]",

@@ -69,8 +69,10 @@ class Threads(InFolder):
     BUILD = """
     cc=${CC:-cc}
     . "$0/parser.sh"
-    for part in $parser_parts; do sources="$sources $0/src/$part.c"; done
-    exec $cc -std=c17 -Wall -Wextra -Wconversion -Werror -pedantic -D_XOPEN_SOURCE=700 -D_FILE_OFFSET_BITS=64 -O2 -I"$0/src" $2 $parser_flags -o "$1" \\
+    headers=
+    for part in $parser_parts; do sources="$sources $0/src/*/$part.c"; done
+    for folder in "$0"/src/*; do headers="$headers -I$folder"; done
+    exec $cc -std=c17 -Wall -Wextra -Wconversion -Werror -pedantic -D_XOPEN_SOURCE=700 -D_FILE_OFFSET_BITS=64 -O2 $headers $2 $parser_flags -o "$1" \\
         "$0/tests/thread_memory_test.c" $sources $parser_libs -lpthread
     """
 

@@ -25,7 +25,7 @@ import time
 HERE = pathlib.Path(__file__).resolve().parent
 TOP = HERE.parents[2]
 LIBRARY = pathlib.Path(os.environ.get("RNCV_LIBRARY", TOP / "build/library")) / "lib/librncv.so"
-SOURCES = [HERE.parent / "src" / f"{name}.c" for name in (
+SOURCES = [next(HERE.parent.glob(f"src/*/{name}.c")) for name in (
     "schema_hints", "schema_restrictions", "schema_words", "schema_types", "schema_asked", "schema_grammars", "schema_tree", "schema_annotations", "annotation_names",
     "schema_tokens", "xml_names", "origins", "paths", "bytes")]
 # What finds out how a file is written needs the parser of XML. It is not called here.
@@ -217,7 +217,7 @@ def begin(script, sources, work):
         compiler, built, stubs = os.environ.get("CC", "cc"), f"{room}/built.so", pathlib.Path(room, "stubs.c")
         stubs.write_text(STUBS)
         subprocess.run([compiler, "-std=c17", "-D_XOPEN_SOURCE=700", "-g", "-O1", "-fPIC", "-shared", "-fsanitize=address,undefined",
-                        "-fno-sanitize-recover=all", f"-I{HERE.parent / 'src'}", f"-I{LIBRARY.parents[1] / 'include'}", "-o", built, *sources, stubs,
+                        "-fno-sanitize-recover=all", *(f"-I{it}" for it in HERE.parent.glob("src/*")), f"-I{LIBRARY.parents[1] / 'include'}", "-o", built, *sources, stubs,
                         f"-L{LIBRARY.parent}", f"-Wl,-rpath,{LIBRARY.parent}", "-lrncv"], check=True)
         loaded = subprocess.run([compiler, "-print-file-name=libasan.so"], capture_output=True, text=True, check=True).stdout.strip()
         environment = {**os.environ, "FUZZ_BUILT": built, "LD_PRELOAD": loaded, "ASAN_OPTIONS": "detect_leaks=0"}

@@ -13,7 +13,7 @@ import tempfile
 import ids_test
 from testing import HERE, RNCV
 
-SOURCES = [HERE / "src" / f"{name}.c" for name in ("text_table", "id_form", "id_types", "id_check", "schema_tokens", "xml_names", "paths", "bytes")]
+SOURCES = [next(HERE.glob(f"src/*/{name}.c")) for name in ("text_table", "id_form", "id_types", "id_check", "schema_tokens", "xml_names", "paths", "bytes")]
 # What finds out how a file is written needs the parser of XML. It is not called here.
 STUBS = """
 #include "conversion.h"
@@ -28,7 +28,7 @@ def main():
     with tempfile.TemporaryDirectory() as room:
         folder = pathlib.Path(room)
         (folder / "stubs.c").write_text(STUBS, encoding="utf-8")
-        words = [os.environ.get("CC", "cc"), *FLAGS, f"-I{HERE / 'src'}", "-o", folder / "fuzz"]
+        words = [os.environ.get("CC", "cc"), *FLAGS, *(f"-I{it}" for it in HERE.glob("src/*")), "-o", folder / "fuzz"]
         subprocess.run([*words, HERE / "tests/ids_fuzz.c", folder / "stubs.c", *SOURCES], check=True)
         schemas = [ids_test.SCHEMA, *(ids_test.HEAD + schema for schema, _ in ids_test.UNSOUND), *(ids_test.HEAD + schema for schema in ids_test.SOUND)]
         forms = []

@@ -224,8 +224,8 @@ class Balance(InFolder):
     BUILD = """
     cc=${CC:-cc}
     . "$0/parser.sh"
-    for part in entity_balance entity_text xml_names bytes parser_words; do sources="$sources $0/src/$part.c"; done
-    exec $cc -std=c17 -Wall -Wextra -Wconversion -Werror -pedantic -D_XOPEN_SOURCE=700 -include "$2" -I"$0/src" $parser_flags -o "$1" \\
+    for part in entity_balance entity_text xml_names bytes parser_words; do sources="$sources $0/src/*/$part.c"; done
+    exec $cc -std=c17 -Wall -Wextra -Wconversion -Werror -pedantic -D_XOPEN_SOURCE=700 -include "$2" -I"$0/src/reading" -I"$0/src/program" $parser_flags -o "$1" \\
         "$0/tests/balance_test.c" $sources $parser_libs
     """
 
