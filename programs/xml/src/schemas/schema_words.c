@@ -220,8 +220,54 @@ static bool are_taken(struct hinting *hinting, const struct type *type, uint32_t
     return are_known && is_taken(hinting, &question);
 }
 
+/* Whether the values of the datatype are lists, which have one item at least. */
+static bool is_of_items(const struct type *type) {
+    return strcmp(type->name, "NMTOKENS") == 0 || strcmp(type->name, "IDREFS") == 0 || strcmp(type->name, "ENTITIES") == 0;
+}
+
+/* The text without the blanks around it. */
+static struct span trimmed(struct span text) {
+    static const char blanks[] = " \t\r\n";
+    while (text.length > 0 && memchr(blanks, text.data[0], sizeof blanks - 1) != NULL) {
+        text = (struct span){text.data + 1, text.length - 1};
+    }
+    while (text.length > 0 && memchr(blanks, text.data[text.length - 1], sizeof blanks - 1) != NULL) {
+        text.length--;
+    }
+    return text;
+}
+
+/* Whether a text is an integer above the greatest that a length or a number of digits may be. */
+static bool is_above_counts(struct span written) {
+    static const char greatest[] = "9223372036854775807";
+    const size_t most = sizeof greatest - 1;
+    struct span text = trimmed(written);
+    bool has_sign = text.length > 0 && text.data[0] == '+';
+    struct span digits = {text.data + has_sign, text.length - has_sign};
+    while (digits.length > 0 && digits.data[0] == '0') {
+        digits = (struct span){digits.data + 1, digits.length - 1};
+    }
+    for (size_t at = 0; at < digits.length; at++) {
+        if (digits.data[at] < '0' || digits.data[at] > '9') {
+            return false;
+        }
+    }
+    return digits.length > most || (digits.length == most && memcmp(digits.data, greatest, most) > 0);
+}
+
+/* Says which numbers a length or a number of digits may be. */
+static void add_counts(struct hinting *hinting, const struct type *type, struct span name, struct span text) {
+    if (is_above_counts(text)) {
+        bytes_add_text(&hinting->text, "' is above 9,223,372,036,854,775,807, the greatest number that is served there");
+    } else {
+        bool is_from_1 = span_is(name, "totalDigits") || is_of_items(type);
+        bytes_add_text(&hinting->text, is_from_1 ? "' is no number from 1 on" : "' is no number from 0 on");
+    }
+}
+
 /* Says which texts the parameter has. */
-static void add_wanted(struct hinting *hinting, struct span written, const struct type *type, struct span name) {
+static void add_wanted(struct hinting *hinting, struct span written, const struct type *type, const struct node *param) {
+    struct span name = param->text;
     if (span_is(name, "pattern")) {
         bytes_add_text(&hinting->text, "' is no regular expression of XML Schema, or its size, with its counts written out, is above 4,096");
     } else if (type->kind == TYPE_INTEGER && span_is(name, "fractionDigits")) {
@@ -232,7 +278,7 @@ static void add_wanted(struct hinting *hinting, struct span written, const struc
         bytes_add_text(&hinting->text, "' is no value of ");
         add_part(hinting, written);
     } else {
-        bytes_add_text(&hinting->text, span_is(name, "totalDigits") ? "' is no number from 1 on" : "' is no number from 0 on");
+        add_counts(hinting, type, name, param->other);
     }
 }
 
@@ -258,7 +304,7 @@ static void judge_param(struct hinting *hinting, struct span written, const stru
     ask_about(hinting, &question, param);
     if (!is_taken(hinting, &question) && hint_begins(hinting, param)) {
         add_parameter(hinting, here);
-        add_wanted(hinting, written, type, here->text);
+        add_wanted(hinting, written, type, here);
     }
 }
 
