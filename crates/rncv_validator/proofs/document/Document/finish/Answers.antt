@@ -12,8 +12,8 @@ use Rattle.rncv_validator.proofs.FedDocuments.{HoldsWith, ended_grammar, ended_s
 use Rattle.rncv_validator.proofs.FedDocuments.{resumed, state_kept}
 use Rattle.rncv_validator.proofs.document.Document.finish.Goals as goal
 
-pub of_parts-in-Ok-requires-clause-state : goal.of_parts-in-Ok-requires-clause-state
-of_parts-in-Ok-requires-clause-state c =
+pub of_parts-requires-in-Ok-clause-state : goal.of_parts-requires-in-Ok-clause-state
+of_parts-requires-in-Ok-clause-state c =
     let d = c.self.inside in
     let old = c.resume-matcher.result in
     let new = c.finish-ended.new.events in
