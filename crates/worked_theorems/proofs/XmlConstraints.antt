@@ -21,7 +21,7 @@ use Rattle.xml_model.specs.documents.Content as content
 use Rattle.xml_model.specs.documents.Content.{XmlEvent, IsStartTag, IsXmlElement, IsXmlContent}
 use Rattle.worked_theorems.proofs.XmlContent.{nothing_declared, with_e}
 
-abbrev first_of : List ℕ → ℕ
+abbrev pub first_of : List ℕ → ℕ
 first_of [] = 0
 first_of (c ∷ cs) = c
 

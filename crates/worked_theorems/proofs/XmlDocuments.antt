@@ -1,30 +1,32 @@
 -- Documents of XML, from their bytes to their answers (XML 1.0 Fifth Edition, sections 2.1 and 4.4; Namespaces in XML 1.0, section 6):
--- one with an entity that has markup and a default of an attribute, and one that has a part which is not read.
-use Rattle.std.proofs.Common.{◌≡◌, ℕ, List, [], ◌∷◌, ◌++◌, codes, refl, true, false, Some, None, Option, arith, inl, inr, length, ap}
+-- one with an entity that has markup and a default of an attribute, one that has a part which is not read, and one with a prefix
+-- that is not declared.
+use Rattle.std.proofs.Common.{◌≡◌, ℕ, List, [], ◌∷◌, ◌++◌, codes, refl, true, false, Some, None, Option, arith, inl, inr, length, ap, sym, subst, ◌∙◌, true≢false, suc}
 use Rattle.std.specs.Str.{is_utf8, chars}
 use Rattle.std.proofs.lemmas.Str.{IsUtf8-from_is_utf8}
 use Rattle.std.proofs.lemmas.List.Elements.{All-nil}
 use Rattle.rng_model.specs.names.Names.{Name, is_ncname}
 use Rattle.rng_model.specs.matching.Document.{Attribute, Item, a_text, an_element, no_items, item_and, none, one_more, nothing_named}
 use Rattle.rng_model.specs.plain.WellFormed as formed
-use Rattle.rng_model.specs.documents.PyxLines.{QName, IsName, alone}
+use Rattle.rng_model.specs.documents.PyxLines.{QName, IsNcnameText, IsName, alone, prefixed}
 use Rattle.rng_model.specs.documents.PyxNamespaces as spaces
-use Rattle.rng_model.specs.documents.PyxNamespaces.{xmlns, Declares, DeclaresNothing, default_namespace, prefix_declared, declared_outside, no_default, element_name}
-use Rattle.rng_model.specs.documents.PyxTrees.{text_at, element_at, none_placed, placed_and, a_start, a_string, an_end}
+use Rattle.rng_model.specs.documents.PyxNamespaces.{xmlns, NamespaceDeclaration, WrittenAttribute, AreParted, NamesElement, HasNamespace, Declares, DeclaresNothing, default_namespace, prefix_declared, declared_outside, no_default, element_name}
+use Rattle.rng_model.specs.documents.PyxTrees.{text_at, element_at, none_placed, placed_and, a_start, a_string, an_end, EventKind}
 use Rattle.rng_model.specs.documents.Telling.{events_behind}
 use Rattle.xml_model.specs.characters.Encodings.{utf8, unmarked, line_ends}
 use Rattle.xml_model.specs.characters.Productions.{Space, double, none_more, lacks}
 use Rattle.xml_model.specs.declarations.Declared.{Declared, DeclaredAttribute, internal, initially, with_general, with_attributes}
 use Rattle.xml_model.specs.declarations.Literals.{no_more, no_text, unread_mark}
 use Rattle.xml_model.specs.declarations.MarkupDeclarations.{DeclaresEntity, DeclaresAttributes, value, default_value, tokens, definition_and, no_definitions}
-use Rattle.xml_model.specs.declarations.DocumentTypes.{MayHaveDocumentType, with_declarations, without_subset, general_and, attributes_and, no_more as no_declarations}
+use Rattle.xml_model.specs.declarations.DocumentTypes.{MayHaveDocumentType, with_declarations, no_type, without_subset, general_and, attributes_and, no_more as no_declarations}
 use Rattle.xml_model.specs.documents.Content as content
 use Rattle.xml_model.specs.documents.Content.{XmlEvent, start, character, end, IsXmlElement, filled, empty, no_content, element_and}
 use Rattle.xml_model.specs.documents.WholeDocuments.{IsXml, no_declaration}
-use Rattle.xml_model.specs.documents.Answers.{IsDocument, IsIncomplete, IsNamedTag, no_names, name_and, no_events, start_and, character_and, end_and}
+use Rattle.xml_model.specs.documents.Answers.{IsDocument, IsIncomplete, BreaksNamespaces, HaveNames, IsNamedTag, AreNamed, no_names, name_and, no_events, start_and, character_and, end_and}
 use Rattle.worked_theorems.proofs.XmlProductions.{and_then, word, space_is}
-use Rattle.worked_theorems.proofs.XmlContent.{bare_tag, plain_text, plain_value, plain_content}
+use Rattle.worked_theorems.proofs.XmlContent.{nothing_declared, bare_tag, plain_text, plain_value, plain_content}
 use Rattle.worked_theorems.proofs.XmlDeclarations.{name_and_subset}
+use Rattle.worked_theorems.proofs.XmlConstraints.{first_of, prefix_without_namespace}
 
 -- ---- `<!DOCTYPE a [<!ENTITY e "<b/>"><!ATTLIST b t NMTOKEN " 1">]><a>&e;x</a>`
 
@@ -240,3 +242,82 @@ incomplete_xml = record {
 
 pub incomplete : IsIncomplete not_read
 incomplete = (with_unread, unread_events, incomplete_xml, refl)
+
+-- ---- `<p:a/>`: p is not declared
+
+abbrev not_declared : List ℕ
+not_declared = codes "<p:a/>"
+
+abbrev prefixed_events : List XmlEvent
+prefixed_events = start (codes "p:a") [] ∷ end ∷ []
+
+pub prefixed_xml : IsXml not_declared nothing_declared prefixed_events
+unfolding line_ends lib.Utf8.encode
+prefixed_xml = record {
+  coding = utf8;
+  text = not_declared;
+  is_text = record { written = not_declared; is_encoded = unmarked refl; chars = refl; text_is = refl };
+  declaration = [];
+  before = [];
+  doctype = [];
+  between = [];
+  root = not_declared;
+  behind = [];
+  parts = refl;
+  version = codes "1.0";
+  encoding = None;
+  standalone = false;
+  is_declaration = no_declaration;
+  in_version = refl;
+  in_encoding = refl;
+  misc_before = none_more;
+  is_doctype = no_type;
+  misc_between = none_more;
+  is_root = empty (bare_tag nothing_declared (codes "p:a") refl refl) refl;
+  misc_behind = none_more;
+}
+
+abbrev behind_two : List ℕ → List ℕ
+behind_two [] = []
+behind_two (c ∷ []) = []
+behind_two (c ∷ d ∷ cs) = cs
+
+no_longer : (e : ℕ) (more local : List ℕ) → ¬ (codes "a" ≡ e ∷ (more ++ 58 ∷ local))
+no_longer e [] local same = let n : 1 ≡ suc (suc (length local)) = ap length same in omega (arith, n)
+no_longer e (c ∷ more) local same = let n : 1 ≡ suc (suc (length (more ++ 58 ∷ local))) = ap length same in omega (arith, n)
+
+no_empty_name : ¬ (IsNcnameText [])
+unfolding chars
+no_empty_name is = true≢false (sym is.ncname)
+
+no_colon_in_name : ¬ (IsNcnameText (codes "p:a"))
+unfolding chars
+no_colon_in_name is = true≢false (sym is.ncname)
+
+before_colon : (prefix local : List ℕ) → IsNcnameText prefix → codes "p:a" ≡ prefix ++ 58 ∷ local → prefix ≡ codes "p"
+before_colon [] local is parts = absurd (no_empty_name is)
+before_colon (c ∷ []) local is parts = let first : ◌≡◌ {A = ℕ} 112 c = ap first_of parts in ap (λ c. c ∷ []) (sym first)
+before_colon (c ∷ d ∷ []) local is parts = let third : ◌≡◌ {A = ℕ} 97 58 = ap (λ l. first_of (behind_two l)) parts in absurd (omega (arith, third))
+before_colon (c ∷ d ∷ e ∷ more) local is parts = absurd (no_longer e more local (ap behind_two parts))
+
+-- its name has the prefix p
+prefix_is_p : (text : List ℕ) (name : QName) → text ≡ codes "p:a" → IsName text name → name.prefix ≡ Some (codes "p")
+prefix_is_p text name same (alone is) = absurd (no_colon_in_name (subst IsNcnameText same is))
+prefix_is_p text name same (prefixed {prefix = prefix} {local = local} is_prefix is_local parts) = ap Some (before_colon prefix local is_prefix (sym same ∙ parts))
+
+-- a tag without attributes declares nothing
+declares_none : (written others : List WrittenAttribute) (ds : List NamespaceDeclaration) → HaveNames [] written → AreParted written ds others → ds ≡ []
+declares_none written others ds no_names spaces.nothing = refl
+
+no_names_for_it : (calls : List EventKind) → ¬ (AreNamed [] prefixed_events calls)
+unfolding lib.Utf8.encode
+no_names_for_it calls (start_and {ds = ds} {q = q} tag more) = by tag.qname q tag.is_named (prefix_is_p _ tag.qname refl tag.is_name) where
+  none_declared : ds ≡ []
+  none_declared = declares_none tag.written tag.others ds tag.have_names tag.are_parted
+
+  by : (name : QName) (q : Name) → NamesElement (ds ∷ []) name q → name.prefix ≡ Some (codes "p") → ⊥
+  by name q (element_name {uri = uri} is) prefix =
+      prefix_without_namespace uri (subst (λ p. HasNamespace ([] ∷ []) p uri) prefix (subst (λ ds. HasNamespace (ds ∷ []) name.prefix uri) none_declared is))
+
+pub breaks_namespaces : BreaksNamespaces not_declared false
+breaks_namespaces = (nothing_declared, prefixed_events, prefixed_xml, refl, no_names_for_it, refl)
