@@ -6,4 +6,4 @@ pub returns-clause-begun : goal.returns-clause-begun
 returns-clause-begun c = begun _ _ _ _ (search rules) (search rules)
 
 pub returns-clause-mode : goal.returns-clause-mode
-returns-clause-mode c = begun_mode _ _ (search rules)
+returns-clause-mode c = begun_mode c.into_parts-grammar.result.0.value c.into_parts-grammar.result.1 (search rules)
