@@ -1,3 +1,4 @@
 mod AsBox
+mod RefusedStarts
 mod Crossing
 mod Values
