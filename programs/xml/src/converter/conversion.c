@@ -1,7 +1,5 @@
 #include "conversion.h"
 
-#include "parser_memory.h"
-
 #include <stdlib.h>
 #include <string.h>
 
@@ -80,13 +78,11 @@ static void hand_on(struct writer *writer) {
     writer->count = 0;
 }
 
-/* Does the same while libxml2 reads, unless there is a fault. */
+/* Does the same unless there is a fault. */
 static void flush(void *context) {
     struct writer *writer = context;
     if (is_good(writer)) {
-        parser_memory_pause(true); /* the sink may use libxml2 itself */
         hand_on(writer);
-        parser_memory_pause(false);
     }
 }
 
@@ -196,22 +192,12 @@ static size_t held_characters(struct writer *writer, struct span text) {
     return writer->text_characters = count;
 }
 
-static bool has_blanks_alone(struct span text) {
-    size_t at = 0;
-    while (at < text.length && (text.data[at] == ' ' || text.data[at] == '\t' || text.data[at] == '\n' || text.data[at] == '\r')) {
-        at++;
-    }
-    return at == text.length;
-}
-
-static void take_text(void *context, struct position position, struct span text, bool is_raw) {
+static void take_text(void *context, struct place place, struct span text, bool is_blank) {
     struct writer *writer = context;
-    (void)is_raw;
-    bool is_blank = (!writer->has_text || writer->is_blank) && has_blanks_alone(text);
     if (!writer->has_text || (writer->is_blank && !is_blank)) {
-        writer->text_place = place_of(position);
+        writer->text_place = place;
     }
-    writer->is_blank = is_blank;
+    writer->is_blank = is_blank && (!writer->has_text || writer->is_blank);
     if (!writer->has_text) {
         writer->has_text = true;
         writer->text_bytes = 0;
@@ -249,7 +235,7 @@ static void take_start(void *context, const struct start_event *start) {
     static const struct span xmlns = {"xmlns", 5};
     static const struct span none = {"", 0};
     struct writer *writer = context;
-    struct place place = place_of(start->position);
+    struct place place = start->place;
     text_ends(writer);
     bytes_add_byte(&writer->pyx, '(');
     add_name(&writer->pyx, start->name);
@@ -265,16 +251,16 @@ static void take_start(void *context, const struct start_event *start) {
     }
 }
 
-static void take_end(void *context, struct position position, const struct event_name *name) {
+static void take_end(void *context, struct place place, const struct event_name *name) {
     struct writer *writer = context;
     text_ends(writer);
     bytes_add_byte(&writer->pyx, ')');
     add_name(&writer->pyx, name);
-    line_ends(writer, place_of(position));
+    line_ends(writer, place);
 }
 
 /* An instruction vanishes. It has a line so that texts join across it. A long line is cut. */
-static void take_instruction(void *context, struct position position, struct span target, struct span data) {
+static void take_instruction(void *context, struct place place, struct span target, struct span data) {
     struct writer *writer = context;
     text_ends(writer);
     size_t begin = writer->pyx.length;
@@ -287,7 +273,7 @@ static void take_instruction(void *context, struct position position, struct spa
     if (!writer->pyx.failed) {
         writer->pyx.length = begin + cut_at(writer->pyx.data + begin, writer->pyx.length - begin, LINE_BYTES);
     }
-    line_ends(writer, place_of(position));
+    line_ends(writer, place);
 }
 
 static void take_note(void *context, struct place place, const char *what) {

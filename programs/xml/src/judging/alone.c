@@ -64,11 +64,11 @@ static void keep_beginning(struct element *element, struct span text) {
     bytes_add(&element->text, left.data, length);
 }
 
-void element_take_text(struct element *element, struct position position, struct span text) {
+void element_take_text(struct element *element, struct place place, struct span text, bool is_blank) {
     element->is_empty = false;
     if (!element->is_begun) {
-        element->text_place = place_of(position);
-        element->is_begun = blanks_of(text) < text.length;
+        element->text_place = place;
+        element->is_begun = !is_blank;
     }
     if (element->has_children) {
         keep_beginning(element, text);
@@ -267,7 +267,7 @@ static bool pass_end(struct alone_telling *telling) {
         bytes_add(&found->text, shown.data, length);
     }
     found->is_end = true;
-    found->place = own->is_empty ? own->place : place_of(*telling->alone->end);
+    found->place = own->is_empty ? own->place : telling->alone->end;
     return pass_text(telling->alone) == RNCV_DONE && rncv_events_end(&telling->alone->judge->schema, ++telling->number) == RNCV_DONE;
 }
 

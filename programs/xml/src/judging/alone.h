@@ -33,7 +33,7 @@ struct element {
 
 /* Begins an element. It has room that is used again. */
 void element_begin(struct element *element, const struct start_event *start, struct mark mark);
-void element_take_text(struct element *element, struct position position, struct span text);
+void element_take_text(struct element *element, struct place place, struct span text, bool is_blank);
 void element_take_child(struct element *element, const struct event_name *name, struct mark mark);
 void element_free(struct element *element);
 
@@ -45,7 +45,7 @@ struct alone {
     struct judge *judge;            /* by one of the schemas for an element alone */
     const struct element *elements; /* those that are open: .. */
     size_t depth;                   /* .. the last one is judged */
-    const struct position *end;
+    struct place end;
     uint32_t member;                /* which element of the schema it is */
     bool has_attributes;            /* the schema has them */
 };

@@ -113,7 +113,7 @@ bool id_check_take(struct id_check *check, const struct start_event *tag) {
         struct id_names names = {tag->name->uri, tag->name->local, attribute->name.uri, attribute->name.local};
         enum id_type type = id_types_find(check->types, &names, &check->key);
         if (type != ID_NONE) {
-            check->place = place_of(tag->position);
+            check->place = tag->place;
             take_value(check, type, attribute->value, written(check, &attribute->name));
         }
     }

@@ -18,27 +18,24 @@ enum {
 struct gap_is {
     bool text : 1;
     bool tag : 1;    /* the start tag before: nothing comes behind it */
-    bool raw : 1;    /* the text is only in the document so far, and not kept */
     bool cut : 1;    /* no more of the text is kept */
-    bool begun : 1; /* what is kept of it begins with a character that is no blank */
-    bool known : 1; /* the judging knows the place of its position */
-    bool untold : 1; /* the text is blank, and the library has not been told of it */
+    bool begun : 1;  /* what is kept of it begins with a character that is no blank */
+    bool untold : 1; /* the text is blank and kept, and the library has not been told of it */
 };
 
 /* What is directly before a start or an end: a text, the start tag before, or neither. */
 struct gap {
-    struct position position;
+    struct place place; /* of the text, or the tag */
     size_t kept_at; /* where the text begins in the judge's `text`, .. */
     size_t kept;    /* .. and how many bytes are there */
     struct gap_is is;
 };
 
-/* A start or an end. The library is not asked after each one. So what is told if nothing valid can follow it is kept: positions and lengths, since that costs
- * less than places and texts. */
+/* A start or an end. The library is not asked after each one. So what is told if nothing valid can follow it is kept. */
 struct step {
     struct gap gap; /* before it */
-    struct position position;
-    const struct event_name *name;
+    struct place place;
+    struct event_name name;
     size_t depth; /* of a start: how many elements are open then; 0: it is an end */
 };
 
@@ -54,7 +51,6 @@ struct judging {
     struct step steps[MOST_STEPS + 1]; /* those that the library was not asked about, .. */
     struct step *next; /* .. and the one that comes next */
     size_t open;         /* how many elements are open before the first of them */
-    struct place before; /* the place that the first gap knows */
     const struct start_event *start; /* the start that was passed last, if it is at hand; else NULL */
     size_t usual_depth; /* a start that is deeper is a usual one: no scope has ended before it, the document is valid so far, and has no IDs */
     bool has_ids;    /* IDs are checked */
@@ -150,7 +146,7 @@ static size_t blanks_of(struct span text) {
 }
 
 static struct span kept_text(const struct judging *judging, const struct gap *gap) {
-    bool is_there = gap->is.text && !gap->is.raw && gap->kept > 0;
+    bool is_there = gap->is.text && gap->kept > 0;
     return is_there ? (struct span){judging->judge->text.data + gap->kept_at, gap->kept} : (struct span){"", 0};
 }
 
@@ -204,22 +200,11 @@ static inline void keep_text(struct judging *judging, struct gap *gap, struct sp
     }
 }
 
-/* Keeps a text that is only in the document so far. Nothing is kept behind it. */
-static void keep_raw(struct judging *judging, struct gap *gap) {
-    if (gap->is.raw) {
-        gap->is.raw = false;
-        gap->kept_at = judging->judge->text.length;
-        gap->kept = 0;
-        keep_text(judging, gap, raw_text(gap->position));
-    }
-}
-
 /* Notes a text before the start or end after which nothing valid can follow. What is kept of the texts behind it is needed no more. */
 static void note_text(struct judging *judging, struct gap *gap) {
     struct finding *found = &judging->found;
     struct bytes *kept = &judging->judge->text;
     kept->length = kept_text(judging, gap).length > 0 ? gap->kept_at + gap->kept : 0;
-    keep_raw(judging, gap);
     drop_blanks(judging, gap);
     struct span text = kept_text(judging, gap);
     found->has_text = text.length > 0;
@@ -241,7 +226,7 @@ static void note_around(struct judging *judging, const struct step *start) {
     size_t open = start->depth;
     for (const struct step *step = start + 1; step < judging->next; step++) {
         if (step->depth == 0 && open < start->depth) {
-            add_written(&judging->found.around, step->name);
+            add_written(&judging->found.around, &step->name);
             return;
         }
         open = step->depth > 0 ? step->depth : open - 1;
@@ -261,13 +246,13 @@ static bool note_finding(struct judging *judging, struct step *step) {
     size_t depth = depth_of(judging, step);
     found->is_end = step->depth == 0;
     if (step->gap.is.text || step->gap.is.tag) {
-        found->text_place = step->gap.is.known ? judging->before : earlier_place_of(step->gap.position);
+        found->text_place = step->gap.place;
     }
     if (step->gap.is.text) {
         note_text(judging, &step->gap);
     }
-    found->place = found->is_end && step->gap.is.tag ? found->text_place : earlier_place_of(step->position);
-    finding_name(found, step->name);
+    found->place = found->is_end && step->gap.is.tag ? found->text_place : step->place;
+    finding_name(found, &step->name);
     if (!found->is_end) {
         note_around(judging, step);
     }
@@ -323,25 +308,12 @@ static void look(struct judging *judging) {
 static OUT_OF_LINE void tell_blanks(struct judging *judging) {
     struct gap *gap = &judging->next->gap;
     gap->is.untold = false;
-    library_text(&judging->judge->schema, raw_text(gap->position));
+    library_text(&judging->judge->schema, kept_text(judging, gap));
 }
 
-/* Keeps what is needed of the texts and names that vanish. */
-static void keep(void *context) {
-    struct judging *judging = context;
-    if (judging->next->gap.is.untold) {
-        tell_blanks(judging);
-    }
-    look(judging);
-    if (judging->found.is_there) {
-        return;
-    }
-    struct gap *gap = &judging->next->gap;
-    if ((gap->is.text || gap->is.tag) && !gap->is.known) {
-        judging->before = place_of(gap->position);
-        gap->is.known = true;
-    }
-    keep_raw(judging, gap);
+/* Looks at the last steps. */
+static void take_last(void *context) {
+    look(context);
 }
 
 /* There is room for one more step. */
@@ -350,12 +322,12 @@ static inline bool has_room(const struct judging *judging) {
 }
 
 /* Ends the step of a start or an end, and begins the next one. */
-static inline void end_step(struct judging *judging, struct position position, const struct event_name *name, size_t depth, bool is_end) {
+static inline void end_step(struct judging *judging, struct place place, const struct event_name *name, size_t depth, bool is_end) {
     struct step *step = judging->next++;
-    step->position = position;
-    step->name = name;
+    step->place = place;
+    step->name = *name;
     step->depth = depth;
-    judging->next->gap.position = position;
+    judging->next->gap.place = place;
     judging->next->gap.is = (struct gap_is){.tag = !is_end};
     judging->is_behind_start = !is_end;
 }
@@ -390,12 +362,8 @@ static inline void enter(struct judging *judging, const struct start_event *star
 
 /* Does the same for any element, and takes the namespaces that it declares. */
 static void enter_any(struct judging *judging, const struct start_event *start) {
-    static const struct open_name none = {{"", 0}, {"", 0}};
     struct scope *scope = &judging->judge->scope;
     enter(judging, start);
-    if (start->has_fleeting_name && start->depth <= MOST_NAMED) {
-        judging->judge->open[start->depth - 1] = none;
-    }
     scope_keep(scope, start->depth - 1);
     for (size_t at = 0; at < start->declaration_count; at++) {
         scope_declare(scope, &start->declarations[at], start->depth);
@@ -418,7 +386,7 @@ static OUT_OF_LINE void take_any_start(struct judging *judging, const struct sta
         return;
     }
     enter_any(judging, start);
-    end_step(judging, start->position, start->name, start->depth, false);
+    end_step(judging, start->place, start->name, start->depth, false);
     pass_attributes(judging, start);
     if (judging->has_ids && !id_check_take(&judge->ids, start)) {
         out_of_memory(judging);
@@ -429,13 +397,13 @@ static OUT_OF_LINE void take_any_start(struct judging *judging, const struct sta
  * take_any_end, and at the end of the document. */
 static void take_start(void *context, const struct start_event *start) {
     struct judging *judging = context;
-    bool is_usual = start->depth > judging->usual_depth && start->declaration_count == 0 && !start->has_fleeting_name;
+    bool is_usual = start->depth > judging->usual_depth && start->declaration_count == 0;
     if (!is_usual || !has_room(judging)) {
         take_any_start(judging, start);
         return;
     }
     enter(judging, start);
-    end_step(judging, start->position, start->name, start->depth, false);
+    end_step(judging, start->place, start->name, start->depth, false);
     if (start->attribute_count > 0) {
         pass_attributes(judging, start);
     } else {
@@ -443,34 +411,35 @@ static void take_start(void *context, const struct start_event *start) {
     }
 }
 
-/* Keeps a piece of a text, unless it is the first one, and in the document. */
-static void keep_piece(struct judging *judging, struct position position, struct span text, bool is_raw) {
+/* Begins a text. */
+static inline void begin_text(struct judging *judging, struct gap *gap, struct place place) {
+    gap->place = place;
+    gap->kept_at = judging->judge->text.length;
+    gap->kept = 0;
+    gap->is = (struct gap_is){.text = true};
+}
+
+/* Keeps a piece of a text. */
+static void keep_piece(struct judging *judging, struct place place, struct span text) {
     struct gap *gap = &judging->next->gap;
     if (!gap->is.text) {
-        gap->is = (struct gap_is){.text = true, .raw = is_raw};
-        gap->kept_at = judging->judge->text.length;
-        gap->kept = 0;
-    } else {
-        keep_raw(judging, gap);
-        drop_blanks(judging, gap);
+        begin_text(judging, gap, place);
     }
+    drop_blanks(judging, gap);
     if (!gap->is.begun) {
-        gap->position = position;
-        gap->is.known = false;
+        gap->place = place;
     }
-    if (!gap->is.raw) {
-        keep_text(judging, gap, text);
-    }
+    keep_text(judging, gap, text);
 }
 
 /* Takes any piece of a text. */
-static OUT_OF_LINE void take_any_text(struct judging *judging, struct position position, struct span text, bool is_raw) {
+static OUT_OF_LINE void take_any_text(struct judging *judging, struct place place, struct span text) {
     struct judge *judge = judging->judge;
     if (judging->next->gap.is.untold) {
         tell_blanks(judging);
     }
     if (!judging->found.is_there) {
-        keep_piece(judging, position, text, is_raw);
+        keep_piece(judging, place, text);
     }
     int32_t status = library_text(&judge->schema, text);
     if (status != RNCV_DONE) {
@@ -478,21 +447,21 @@ static OUT_OF_LINE void take_any_text(struct judging *judging, struct position p
     }
 }
 
-/* Takes a piece of a text. Mostly it is the first one, and in the document as it is: then it is not copied. Of the status take_start says enough.
+/* Takes a piece of a text. Mostly it is the only one, and short. Of the status take_start says enough.
  *
  * The library is not told of a blank text beside an element, since such a text changes no verdict (RELAX NG Specification, section 6.2.7; blank_string_laws
  * of the crate blank_strings). Whether one is beside an element shows at the next start or end. */
-static void take_text(void *context, struct position position, struct span text, bool is_raw) {
+static void take_text(void *context, struct place place, struct span text, bool is_blank) {
     struct judging *judging = context;
     struct gap *gap = &judging->next->gap;
-    if (!judging->is_usual || !is_raw || gap->is.text) {
-        take_any_text(judging, position, text, is_raw);
+    if (!judging->is_usual || gap->is.text || text.length > TEXT_BYTES) {
+        take_any_text(judging, place, text);
         return;
     }
-    bool is_blank = blanks_of(text) == text.length;
-    gap->position = position;
-    gap->is = (struct gap_is){.text = true, .raw = true, .untold = is_blank};
-    if (!is_blank) {
+    begin_text(judging, gap, place);
+    add_kept(judging, gap, text);
+    gap->is.untold = is_blank && gap->kept == text.length;
+    if (!gap->is.untold) {
         library_text(&judging->judge->schema, text);
     }
 }
@@ -503,7 +472,7 @@ static inline bool is_untold_alone(const struct judging *judging) {
 }
 
 /* Takes any end. */
-static OUT_OF_LINE void take_any_end(struct judging *judging, struct position position, const struct event_name *name) {
+static OUT_OF_LINE void take_any_end(struct judging *judging, struct place place, const struct event_name *name) {
     struct judge *judge = judging->judge;
     if (is_untold_alone(judging)) {
         tell_blanks(judging);
@@ -515,25 +484,25 @@ static OUT_OF_LINE void take_any_end(struct judging *judging, struct position po
     if (status != RNCV_DONE) {
         is_not_taken(judging, status);
     } else if (!judging->found.is_there) {
-        end_step(judging, position, name, 0, true);
+        end_step(judging, place, name, 0, true);
     }
 }
 
 /* Takes an end, as take_start does a start. */
-static void take_end(void *context, struct position position, const struct event_name *name) {
+static void take_end(void *context, struct place place, const struct event_name *name) {
     struct judging *judging = context;
     if (!judging->is_usual || !has_room(judging) || is_untold_alone(judging)) {
-        take_any_end(judging, position, name);
+        take_any_end(judging, place, name);
         return;
     }
-    end_step(judging, position, name, 0, true);
+    end_step(judging, place, name, 0, true);
     rncv_events_end(&judging->judge->schema, ++judging->number);
 }
 
 /* An instruction is nothing for the judge. */
-static void take_instruction(void *context, struct position position, struct span target, struct span data) {
+static void take_instruction(void *context, struct place place, struct span target, struct span data) {
     struct judging *judging = context;
-    (void)position;
+    (void)place;
     (void)target;
     (void)data;
     judging->next->gap.is.tag = false;
@@ -695,7 +664,7 @@ static void read_source(struct judging *judging, const struct byte_source *sourc
                               .end = take_end,
                               .instruction = take_instruction,
                               .note = take_note,
-                              .keep = keep,
+                              .last = take_last,
                               .held = held,
                               .context = judging,
                               .checks_names = true,

@@ -212,7 +212,7 @@ static bool is_too_late(const struct second_pass *pass, const struct element *el
 }
 
 /* Judges the innermost element. Of one that the schema does not have, nothing is told. */
-static void judge_element(struct second_pass *pass, const struct position *end) {
+static void judge_element(struct second_pass *pass, struct place end) {
     const struct element *element = &pass->second->elements[pass->depth - 1];
     struct alone alone = {&pass->second->whole, pass->second->elements, pass->depth, end, 0, true};
     uint64_t number = 0;
@@ -274,7 +274,7 @@ static void stop(struct second_pass *pass) {
 static void take_start(void *context, const struct start_event *start) {
     struct second_pass *pass = context;
     struct second *second = pass->second;
-    struct mark mark = {place_of(start->position), ++pass->number};
+    struct mark mark = {start->place, ++pass->number};
     struct element *own = room_for(second, pass->depth);
     if (own == NULL) {
         stop(pass);
@@ -296,34 +296,33 @@ static void take_start(void *context, const struct start_event *start) {
     }
 }
 
-static void take_text(void *context, struct position position, struct span text, bool is_raw) {
+static void take_text(void *context, struct place place, struct span text, bool is_blank) {
     struct second_pass *pass = context;
-    (void)is_raw;
     if (pass->depth == 0) {
         return;
     }
-    element_take_text(&pass->second->elements[pass->depth - 1], position, text);
+    element_take_text(&pass->second->elements[pass->depth - 1], place, text, is_blank);
     if (!is_within_limits(pass)) {
         stop(pass);
     }
 }
 
 /* No fault is before the one that is known, so the elements before it need not be judged. */
-static void take_end(void *context, struct position position, const struct event_name *name) {
+static void take_end(void *context, struct place place, const struct event_name *name) {
     struct second_pass *pass = context;
     struct element *own = &pass->second->elements[pass->depth - 1];
     (void)name;
     own->is_done |= ++pass->number == pass->first_number;
     if (pass->number >= pass->first_number) {
-        judge_element(pass, &position);
+        judge_element(pass, place);
     }
     pass->depth--;
     pass->held -= pass->depth == 0 ? 0 : element_held(own - 1);
 }
 
-static void take_instruction(void *context, struct position position, struct span target, struct span data) {
+static void take_instruction(void *context, struct place place, struct span target, struct span data) {
     struct second_pass *pass = context;
-    (void)position;
+    (void)place;
     (void)target;
     (void)data;
     if (pass->depth > 0) {

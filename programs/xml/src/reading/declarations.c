@@ -96,7 +96,7 @@ struct place declarations_place(struct declarations *declarations) {
     struct feed *feed = declarations->feed;
     uint64_t offset = feed_offset(feed);
     if (feed->is_away) {
-        return feed_place(feed, declarations->doctype);
+        return declarations->doctype;
     }
     if (feed->parser->inputNr > 1) {
         return feed_place(feed, feed_last(feed, offset, "%"));
@@ -106,7 +106,7 @@ struct place declarations_place(struct declarations *declarations) {
 
 struct place declarations_parameter_place(struct declarations *declarations) {
     struct feed *feed = declarations->feed;
-    return feed_place(feed, feed->is_away ? declarations->doctype : feed_last(feed, feed_offset(feed), "%"));
+    return feed->is_away ? declarations->doctype : feed_place(feed, feed_last(feed, feed_offset(feed), "%"));
 }
 
 void declarations_refuse(struct declarations *declarations, const char *what) {
@@ -175,7 +175,7 @@ static void check_subset(struct declarations *declarations) {
     uint64_t end = feed_offset(feed);
     uint64_t offset = feed_markup(feed);
     char after_name = feed_byte(feed, offset + sizeof begin - 1);
-    declarations->doctype = offset;
+    declarations->doctype = feed_place(feed, offset);
     if (after_name != ' ' && after_name != '\t' && after_name != '\n') {
         fault_set(feed->fault, FAULT_MALFORMED, feed_place(feed, offset), "malformed XML: no blank after <!DOCTYPE");
     } else if (feed_byte(feed, end) == '>' && feed_byte(feed, end + 1) == '[') {
@@ -188,7 +188,7 @@ void declarations_subset(struct declarations *declarations, const xmlChar *name,
     check_subset(declarations);
     declarations_check_name(declarations, name);
     if ((public != NULL || system != NULL) && !loads_external(declarations)) {
-        declarations_note(declarations, feed_place(declarations->feed, declarations->doctype),
+        declarations_note(declarations, declarations->doctype,
                           "the external DTD '%s' is not loaded: its entities and attribute defaults are not there", system);
     }
 }

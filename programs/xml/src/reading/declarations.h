@@ -51,7 +51,7 @@ enum {
 struct declarations {
     struct feed *feed;
     const struct event_sink *sink; /* gets notes */
-    uint64_t doctype;          /* the offset of the document type */
+    struct place doctype;      /* of the document type */
     bool has_dropped;          /* libxml2 has dropped a parameter entity, so that a later declaration of it would count */
     bool is_unread;            /* a parameter entity was not read: what is declared after it may not count */
     bool has_blank_references; /* an entity has a reference to a blank other than a space */

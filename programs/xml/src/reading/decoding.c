@@ -259,6 +259,7 @@ static size_t add_character(struct decoding *decoding, const char *bytes, size_t
         return 0;
     }
     bytes_add(text, bytes, size);
+    decoding->has_longer |= size > 1;
     return size;
 }
 

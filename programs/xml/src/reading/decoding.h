@@ -34,6 +34,7 @@ struct decoding {
     struct bytes decoded; /* what the transcoder gives */
     char begun[4];        /* the first bytes of a character of UTF-8 whose other bytes have not come */
     size_t begun_length;
+    bool has_longer;      /* a character of more than one byte was given */
     bool after_return;    /* the last character was a carriage return: a line feed behind it belongs to it */
     struct declaration_blanks blanks; /* what was left out of the declaration */
     struct fault fault;   /* why nothing comes after the text that was given. Its place is the end of that text */

@@ -57,18 +57,6 @@ struct reader {
 /* The reader of this thread's document. libxml2 reports some errors without it. */
 static _Thread_local struct reader *current = NULL;
 
-struct place place_of(struct position position) {
-    return feed_place(&current->feed, feed_offset_of(&current->feed, position));
-}
-
-struct place earlier_place_of(struct position position) {
-    return feed_earlier_place(&current->feed, feed_offset_of(&current->feed, position));
-}
-
-struct span raw_text(struct position position) {
-    return feed_text(&current->feed, position.at, position.blanks);
-}
-
 static void out_of_memory(struct reader *reader) {
     fault_set(reader->fault, FAULT_MEMORY, (struct place){0, 0}, "out of memory");
 }
@@ -80,7 +68,9 @@ static bool is_good(const struct reader *reader) {
 static void flush(void *context) {
     const struct reader *reader = context;
     if (is_good(reader) && reader->sink.flush != NULL) {
+        parser_memory_pause(true); /* the receiver may use libxml2 itself */
         reader->sink.flush(reader->sink.context);
+        parser_memory_pause(false);
     }
 }
 
@@ -97,22 +87,6 @@ static void before_read(void *context) {
     struct reader *reader = context;
     flush(reader);
     ask_held(reader);
-}
-
-/* Lets the receiver keep what it still needs of the events that came. */
-static void keep(void *context) {
-    struct reader *reader = context;
-    if (reader->sink.keep != NULL) {
-        reader->sink.keep(reader->sink.context);
-        feed_since(&reader->feed);
-    }
-}
-
-/* Does the same if the texts of a name do not stay. */
-static void keep_name(struct reader *reader, const struct event_name *name) {
-    if (name == &reader->names.other) {
-        keep(reader);
-    }
 }
 
 static struct span span_of(const xmlChar *text) {
@@ -139,21 +113,21 @@ static inline bool is_raw(const struct reader *reader, const xmlChar *text) {
     return is_in_content(reader) && text >= input->base && text < input->end;
 }
 
-/* Finds the position of such a piece, and moves on behind it. */
-static inline struct position raw_position(struct reader *reader, const xmlChar *text, size_t length) {
+/* The place of such a piece, which begins with so many blanks. Moves on behind it. */
+static inline struct place raw_place(struct reader *reader, const xmlChar *text, size_t length, size_t blanks) {
     uint64_t begin = feed_offset_in(&reader->feed, reader->feed.parser->input, text);
     feed_move_on(&reader->feed, begin + length);
-    return (struct position){begin, length};
+    return feed_event_place(&reader->feed, blanks < length ? begin + blanks : begin);
 }
 
-/* Finds the position of another piece, and moves on behind it. Where the document has the piece as it is, its blanks are there too. */
-static struct position other_position(struct reader *reader, size_t length) {
+/* The place of another piece. Moves on behind it. Where the document has the piece as it is, its blanks are there too. */
+static struct place other_place(struct reader *reader, size_t length) {
     struct feed *feed = &reader->feed;
     uint64_t end = feed_offset(feed);
     if (feed->section.is_continued && feed_is_read(feed)) {
         uint64_t next = feed->next;
         feed_move(feed, end);
-        return (struct position){next, length};
+        return feed_place(feed, feed_behind_blanks(feed, next, length));
     }
     uint64_t begin = feed_settle(feed, end);
     bool is_in = feed_is_read(feed);
@@ -162,17 +136,17 @@ static struct position other_position(struct reader *reader, size_t length) {
         begin += feed_byte(feed, begin) == '<' ? strlen("<![CDATA[") : 0;
         feed_move(feed, end);
     }
-    return (struct position){begin, has_blanks ? length : 0};
+    return feed_place(feed, has_blanks ? feed_behind_blanks(feed, begin, length) : begin);
 }
 
 /* Hands a piece of text to the receiver. */
-static void hand_text(struct reader *reader, struct position position, struct span text, bool has_raw) {
-    reader->sink.text(reader->sink.context, position, text, has_raw);
+static void hand_text(struct reader *reader, struct place place, struct span text, bool is_blank) {
+    reader->sink.text(reader->sink.context, place, text, is_blank);
     reader->unasked += text.length;
     if (reader->unasked > ASKED_BYTES) {
         ask_held(reader);
         if (feed_is_over(&reader->feed)) {
-            feed_check_memory(&reader->feed, place_of(position));
+            feed_check_memory(&reader->feed, place);
         }
     }
 }
@@ -180,9 +154,10 @@ static void hand_text(struct reader *reader, struct position position, struct sp
 /* Takes any piece of text. */
 static OUT_OF_LINE void take_any_text(struct reader *reader, const xmlChar *text, size_t length) {
     bool has_raw = is_raw(reader, text);
-    struct position position = has_raw ? raw_position(reader, text, length) : other_position(reader, length);
+    size_t blanks = blanks_of((const char *)text, length);
+    struct place place = has_raw ? raw_place(reader, text, length, blanks) : other_place(reader, length);
     if (length > 0) {
-        hand_text(reader, position, (struct span){(const char *)text, length}, has_raw);
+        hand_text(reader, place, (struct span){(const char *)text, length}, blanks == length);
     }
     if (!has_raw) {
         feed_shrink(&reader->feed); /* libxml2 may not between references */
@@ -200,8 +175,9 @@ static void take_text(void *context, const xmlChar *text, int size) {
         take_any_text(reader, text, size > 0 ? length : 0);
         return;
     }
+    size_t blanks = blanks_of((const char *)text, length);
     reader->unasked += length;
-    reader->sink.text(reader->sink.context, raw_position(reader, text, length), (struct span){(const char *)text, length}, true);
+    reader->sink.text(reader->sink.context, raw_place(reader, text, length, blanks), (struct span){(const char *)text, length}, blanks == length);
 }
 
 /* Takes a CDATA section, or a part of one that was cut. */
@@ -215,21 +191,22 @@ static void take_section(void *context, const xmlChar *text, int size) {
     }
 }
 
-/* Sets the position of a start tag in the document, and moves on behind it. */
+/* Sets the place of a start tag in the document, and moves on behind it. */
 static void set_tag(struct reader *reader) {
-    const xmlParserInput *input = reader->feed.parser->input;
-    uint64_t end = feed_offset_in(&reader->feed, input, input->cur);
+    struct feed *feed = &reader->feed;
+    const xmlParserInput *input = feed->parser->input;
+    uint64_t end = feed_offset_in(feed, input, input->cur);
     bool is_empty = *input->cur == '/';
-    reader->start.position.at = end;
-    reader->start.position.blanks = BEFORE_TAG;
+    uint64_t begin = feed_byte(feed, feed->next) == '<' ? feed->next : feed_last(feed, end, "<");
+    reader->start.place = feed_event_place(feed, begin);
     reader->is_empty = is_empty;
-    feed_move_on(&reader->feed, end + 1 + is_empty);
+    feed_move_on(feed, end + 1 + is_empty);
 }
 
-/* Sets the position of a start tag in an entity. */
+/* Sets the place of a start tag in an entity. */
 static void set_other_tag(struct reader *reader) {
-    reader->start.position.at = feed_settle(&reader->feed, feed_offset(&reader->feed));
-    reader->start.position.blanks = 0;
+    struct feed *feed = &reader->feed;
+    reader->start.place = feed_place(feed, feed_settle(feed, feed_offset(feed)));
     reader->is_empty = false;
 }
 
@@ -373,7 +350,7 @@ static bool declares(const struct reader *reader, size_t count, struct span pref
 static void count_defaults(struct reader *reader, uint64_t cost) {
     uint64_t counted = cost / reader->allowed;
     if (counted > 0 && !declarations_count(&reader->declarations, counted)) {
-        feed_refuse(&reader->feed, place_of(reader->start.position), "attributes by default of more than %s times the document's length",
+        feed_refuse(&reader->feed, reader->start.place, "attributes by default of more than %s times the document's length",
                     MOST_GROWTH * reader->allowed, feed_raising(&reader->feed));
     }
 }
@@ -431,10 +408,12 @@ static const struct event_name *name_of(struct reader *reader, const xmlChar *lo
         return &reader->names.slots[place].name;
     }
     reader->has_undeclared |= prefix != NULL && (uri == NULL || *uri == '\0');
-    if (reader->names.locals[place] != NULL) {
-        keep(reader); /* another name vanishes from there */
-    }
     const struct event_name *name = known_name_new(&reader->names, reader->feed.parser->dict, local, prefix, uri, told_uri(reader, uri));
+    if (name == NULL) {
+        static const struct event_name none = {{"", 0}, {"", 0}, {"", 0}};
+        out_of_memory(reader);
+        return &none;
+    }
     check_long_name(reader, local);
     check_long_name(reader, prefix);
     return name;
@@ -508,7 +487,7 @@ static void write_whole(struct reader *reader, const xmlChar **attributes) {
         }
     }
     count_defaults(reader, length);
-    feed_check_memory(&reader->feed, place_of(reader->start.position));
+    feed_check_memory(&reader->feed, reader->start.place);
 }
 
 static void add_attributes(struct reader *reader, struct start_event *start, int count, const xmlChar **attributes) {
@@ -543,7 +522,7 @@ static void check_names(struct reader *reader, const struct start_event *start) 
         if (words.failed) {
             out_of_memory(reader);
         }
-        fault_set_clause(reader->fault, clause, place_of(start->position), text);
+        fault_set_clause(reader->fault, clause, start->place, text);
     }
     bytes_free(&words);
 }
@@ -709,7 +688,7 @@ static void check_declarations(struct reader *reader, const struct start_event *
         if (words.failed) {
             out_of_memory(reader);
         }
-        fault_set(reader->fault, FAULT_MALFORMED, place_of(start->position), "malformed XML: %s", text);
+        fault_set(reader->fault, FAULT_MALFORMED, start->place, "malformed XML: %s", text);
     }
     bytes_free(&words);
 }
@@ -718,14 +697,14 @@ static void check_declarations(struct reader *reader, const struct start_event *
 static void count_open(struct reader *reader) {
     reader->start.depth++;
     if (reader->start.depth > reader->feed.most_depth) {
-        feed_refuse(&reader->feed, place_of(reader->start.position), "more than %s elements are open", reader->feed.most_depth, "--max-depth");
+        feed_refuse(&reader->feed, reader->start.place, "more than %s elements are open", reader->feed.most_depth, "--max-depth");
     }
 }
 
 /* Refuses a tag with too many attributes and declarations of its own that came at once. */
 static void check_width(struct reader *reader, size_t count) {
     if (count > reader->feed.most_attributes) {
-        feed_refuse(&reader->feed, place_of(reader->start.position), too_many_attributes, reader->feed.most_attributes, "--max-attributes");
+        feed_refuse(&reader->feed, reader->start.place, too_many_attributes, reader->feed.most_attributes, "--max-attributes");
     }
 }
 
@@ -741,7 +720,7 @@ static void count_costs(struct reader *reader, int attribute_count, int default_
     reader->searched += searched_for(reader, attribute_count) + reader->feed.wide.count * (uint64_t)reader->feed.parser->nsNr / 2;
     uint64_t searched = reader->searched / reader->allowed;
     if (searched > SEARCHED && searched / MOST_SEARCHED > feed_offset(&reader->feed) + reader->declarations.loaded) {
-        feed_refuse(&reader->feed, place_of(reader->start.position), "too many declarations of namespaces are in scope",
+        feed_refuse(&reader->feed, reader->start.place, "too many declarations of namespaces are in scope",
                     0, feed_raising(&reader->feed));
     }
     for (int at = attribute_count - default_count; at < attribute_count; at++) {
@@ -764,7 +743,7 @@ static void hand_start(struct reader *reader, const struct start_event *start) {
     }
     if (reader->has_bad_name) {
         flush(reader); /* the receiver comes first: it may know that too, and say more */
-        fault_set(reader->fault, FAULT_MALFORMED, place_of(reader->start.position), "malformed XML: a name that is no QName of Namespaces in XML");
+        fault_set(reader->fault, FAULT_MALFORMED, reader->start.place, "malformed XML: a name that is no QName of Namespaces in XML");
     }
 }
 
@@ -788,7 +767,6 @@ static OUT_OF_LINE void take_any_start(void *context, const xmlChar *local, cons
     }
     add_attributes(reader, start, attribute_count, attributes);
     start->name = name_of(reader, local, prefix, uri);
-    start->has_fleeting_name = start->name == &reader->names.other;
     add_declarations(reader, start, namespace_count, namespaces);
     if (reader->feed.wide.count > 0) {
         add_wide(reader, start, (size_t)(attribute_count - default_count));
@@ -799,11 +777,9 @@ static OUT_OF_LINE void take_any_start(void *context, const xmlChar *local, cons
     if (is_good(reader)) {
         hand_start(reader, start);
     }
-    keep_name(reader, start->name);
     bytes_free(&reader->feed.shortening.whole);
     left_out_forget(&reader->feed.shortening.left);
     wide_tag_forget(&reader->feed.wide);
-    start->has_fleeting_name = false;
     reader->has_double = false;
     reader->has_undeclared = false;
     reader->is_unusual = reader->declarations.default_count > 0 || reader->declarations.has_marks;
@@ -874,19 +850,22 @@ static void take_start(void *context, const xmlChar *local, const xmlChar *prefi
     take_full_start(context, local, prefix, uri, namespace_count, namespaces, attribute_count, default_count, attributes);
 }
 
-/* Finds the position of an end tag in the document, and moves on behind it. Of an empty element it is behind its tag. */
-static inline struct position end_position(struct reader *reader) {
-    const xmlParserInput *input = reader->feed.parser->input;
-    struct position position = {feed_offset_in(&reader->feed, input, input->cur), reader->is_empty ? 0 : BEFORE_END_TAG};
+/* The place of an end tag in the document; of an empty element it is behind its tag. Moves on behind it. */
+static inline struct place end_place(struct reader *reader) {
+    struct feed *feed = &reader->feed;
+    const xmlParserInput *input = feed->parser->input;
+    uint64_t end = feed_offset_in(feed, input, input->cur);
+    bool is_next = feed_byte(feed, feed->next) == '<' && feed_byte(feed, feed->next + 1) == '/';
+    uint64_t begin = reader->is_empty ? end : is_next ? feed->next : feed_last(feed, end, "</");
     reader->is_empty = false;
-    feed_move_on(&reader->feed, position.at);
-    return position;
+    feed_move_on(feed, end);
+    return feed_event_place(feed, begin);
 }
 
 /* Hands an end to the receiver. */
-static inline void hand_end(struct reader *reader, struct position position, const struct event_name *name) {
+static inline void hand_end(struct reader *reader, struct place place, const struct event_name *name) {
     reader->start.depth--;
-    reader->sink.end(reader->sink.context, position, name);
+    reader->sink.end(reader->sink.context, place, name);
 }
 
 /* Takes any end. */
@@ -894,8 +873,7 @@ static OUT_OF_LINE void take_any_end(void *context, const xmlChar *local, const 
     struct reader *reader = context;
     struct feed *feed = &reader->feed;
     const struct event_name *name = name_of(reader, local, prefix, uri);
-    hand_end(reader, is_in_content(reader) ? end_position(reader) : (struct position){feed_settle(feed, feed_offset(feed)), 0}, name);
-    keep_name(reader, name);
+    hand_end(reader, is_in_content(reader) ? end_place(reader) : feed_place(feed, feed_settle(feed, feed_offset(feed))), name);
 }
 
 /* Takes an end, as take_text does a text. */
@@ -909,15 +887,15 @@ static void take_end(void *context, const xmlChar *local, const xmlChar *prefix,
         take_any_end(context, local, prefix, uri);
         return;
     }
-    hand_end(reader, end_position(reader), &reader->names.slots[place].name);
+    hand_end(reader, end_place(reader), &reader->names.slots[place].name);
 }
 
-/* The position of an instruction. One of a parameter entity is at the reference. */
-static struct position instruction_position(struct reader *reader) {
+/* The place of an instruction. One of a parameter entity is at the reference. */
+static struct place instruction_place(struct reader *reader) {
     struct feed *feed = &reader->feed;
     uint64_t end = feed_offset(feed);
     if (!feed_is_read(feed) && !feed->is_away && feed->parser->inSubset != 0) {
-        return (struct position){feed_last(feed, end, "%"), 0};
+        return feed_place(feed, feed_last(feed, end, "%"));
     }
     uint64_t begin = feed_settle(feed, end);
     if (feed_is_read(&reader->feed)) {
@@ -930,13 +908,13 @@ static struct position instruction_position(struct reader *reader) {
         }
         feed_move(feed, end);
     }
-    return (struct position){begin, 0};
+    return feed_place(feed, begin);
 }
 
 /* Hands an instruction to the receiver. */
 static void hand_instruction(struct reader *reader, struct span target, struct span data) {
     if (is_good(reader)) {
-        reader->sink.instruction(reader->sink.context, instruction_position(reader), target, data);
+        reader->sink.instruction(reader->sink.context, instruction_place(reader), target, data);
     }
 }
 
@@ -1395,7 +1373,9 @@ static void read_all(struct reader *reader) {
     }
     reader->feed.parser = parser;
     xmlParseDocument(parser);
-    keep(reader);
+    if (reader->sink.last != NULL) {
+        reader->sink.last(reader->sink.context);
+    }
     check_end(reader);
     xmlDocPtr document = parser->myDoc;
     xmlFreeParserCtxt(parser);
@@ -1451,7 +1431,6 @@ static void open_reader(struct reader *reader, const struct byte_source *source,
     reader->sink = *sink;
     reader->fault = fault;
     feed_open(&reader->feed, source, fault);
-    reader->feed.keep = keep;
     reader->feed.before_read = before_read;
     reader->feed.shortened = take_shortened;
     reader->feed.included = use_inclusions;

@@ -18,7 +18,8 @@ enum {
     FORGOTTEN_BYTES = 65536, /* the text that was read is forgotten in pieces of this length */
     LONG_RUN = 32,          /* bytes of blanks, or of a name. Several of them are as long as what libxml2 has at the beginning of a declaration: 250 */
     NEAR_BYTES = 128,       /* within which such a run is searched */
-    SEARCHED_BYTES = 1024   /* for the beginning of an instruction */
+    SEARCHED_BYTES = 1024,  /* for the beginning of an instruction */
+    LOOKED_AHEAD = 256      /* bytes, for the place of the next event */
 };
 
 #ifndef MOST_HELD
@@ -37,7 +38,6 @@ void feed_open(struct feed *feed, const struct byte_source *source, struct fault
     feed->fault = fault;
     feed->decoding = new_decoding;
     feed->place = (struct place){1, 1};
-    feed->since = feed->place;
     feed->long_at = UINT64_MAX;
     feed->taken_back = ULONG_MAX;
 }
@@ -192,37 +192,56 @@ struct place feed_place(struct feed *feed, uint64_t offset) {
     return included == NULL ? feed->place : *included;
 }
 
-uint64_t feed_offset_of(const struct feed *feed, struct position position) {
-    if (position.blanks >= BEFORE_END_TAG) {
-        return feed_last(feed, position.at, position.blanks == BEFORE_TAG ? "<" : "</");
-    }
-    size_t blanks = 0;
-    while (blanks < position.blanks && is_blank(feed_byte(feed, position.at + blanks))) {
-        blanks++;
-    }
-    return blanks < position.blanks ? position.at + blanks : position.at;
+/* Goes on over characters of ASCII without line feeds. */
+static void pass_plain(struct feed *feed, uint64_t offset) {
+    feed->place.column += offset - feed->place_at;
+    feed->place_at = offset;
 }
 
-void feed_since(struct feed *feed) {
-    feed->since_at = feed->place_at;
-    feed->since = feed->place;
-    inclusions_forget(&feed->inclusions, feed->since_at);
+/* Goes on over line feeds and other characters. */
+static void pass_others(struct feed *feed, uint64_t offset) {
+    const char *at = feed->text.data + (feed->place_at - feed->begin);
+    for (; feed->place_at < offset && (*at == '\n' || (*at & 0x80) != 0); at++, feed->place_at++) {
+        bool is_line_feed = *at == '\n';
+        feed->place.line += is_line_feed;
+        feed->place.column = is_line_feed ? 1 : feed->place.column + (((unsigned char)*at & 0xC0) != 0x80);
+    }
 }
 
-struct place feed_earlier_place(struct feed *feed, uint64_t offset) {
-    if (offset >= feed->place_at || is_in_mark(feed, offset)) {
+/* How many bytes begin a text before a line feed, or another character that is none of ASCII. A few of them are looked at. */
+static size_t plain_run(struct span text, bool is_ascii) {
+    size_t most = text.length < LOOKED_AHEAD ? text.length : LOOKED_AHEAD;
+    const char *line_feed = memchr(text.data, '\n', most);
+    size_t length = line_feed == NULL ? most : (size_t)(line_feed - text.data);
+    size_t at = is_ascii ? length : 0;
+    while (at < length && (text.data[at] & 0x80) == 0) {
+        at++;
+    }
+    return at;
+}
+
+struct place feed_far_place(struct feed *feed, uint64_t offset) {
+    bool is_known = offset >= feed->place_at && feed->place_at >= feed->begin && offset <= end_of(feed) && feed->inclusions.part_count == 0;
+    feed->plain_to = is_known && feed->plain_to > feed->place_at ? feed->plain_to : feed->place_at;
+    if (!is_known) {
         return feed_place(feed, offset);
     }
-    const struct place *included = included_place(feed, offset);
-    if (included != NULL) {
-        return *included;
+    while (feed->plain_to < offset) {
+        pass_plain(feed, feed->plain_to);
+        pass_others(feed, offset);
+        struct span text = {feed->text.data, feed->text.length};
+        feed->plain_to = feed->place_at + plain_run(span_from(text, (size_t)(feed->place_at - feed->begin)), !feed->decoding.has_longer);
     }
-    return offset <= feed->since_at ? feed->since : counted_own(feed, feed->since, feed->since_at, offset);
+    pass_plain(feed, offset);
+    return feed->place;
 }
 
-struct span feed_text(const struct feed *feed, uint64_t offset, size_t length) {
-    bool is_there = offset >= feed->begin && offset + length <= end_of(feed);
-    return is_there ? (struct span){feed->text.data + (offset - feed->begin), length} : (struct span){"", 0};
+uint64_t feed_behind_blanks(const struct feed *feed, uint64_t offset, size_t length) {
+    size_t blanks = 0;
+    while (blanks < length && is_blank(feed_byte(feed, offset + blanks))) {
+        blanks++;
+    }
+    return blanks < length ? offset + blanks : offset;
 }
 
 uint64_t feed_settle(struct feed *feed, uint64_t end) {
@@ -277,7 +296,7 @@ static void forget(struct feed *feed) {
     feed_place(feed, feed->next < feed->begin + feed->given ? feed->next : feed->begin + feed->given);
     cut(feed, feed->place_at < feed->next ? feed->place_at : feed->next);
     forget_long(feed);
-    feed_since(feed);
+    inclusions_forget(&feed->inclusions, feed->place_at);
 }
 
 bool feed_is_over(const struct feed *feed) {
@@ -317,7 +336,6 @@ static void pass_declaration(struct feed *feed) {
     if (blanks->count > 0 && feed->text.length > 0 && feed->place_at == 0) {
         feed->place = place_behind_declaration(blanks, (struct span){feed->text.data, feed->text.length}, &length);
         feed->place_at = length;
-        feed_since(feed);
     }
 }
 
@@ -888,7 +906,8 @@ static size_t leave_choices(struct feed *feed, char *bytes, size_t most) {
     size_t count = whole_characters(not_given(feed), 0).length;
     write_bytes(feed, bytes, count);
     uint64_t before = feed->begin + feed->given;
-    struct span given = feed_text(feed, before - choices->given, choices->given);
+    size_t known = choices->given < feed->given ? choices->given : feed->given;
+    struct span given = {feed->text.data + feed->given - known, known};
     if (!choices_begin(choices, given)) {
         return count;
     }
@@ -944,7 +963,6 @@ static void take_fault(struct feed *feed) {
 int feed_read(void *context, char *bytes, int length) {
     struct feed *feed = context;
     size_t wanted = length > 0 ? (size_t)length : 0;
-    feed->keep(feed->context);
     count_from_zero(feed);
     if (!read_for(feed, wanted + (held_by_parser(feed) < LONGEST_HELD ? 0 : LONGEST_NAME + SHORT_BYTES))) {
         return -1;

@@ -40,8 +40,7 @@ struct feed {
     bool has_ended;     /* there is no more of the document */
     uint64_t place_at;  /* an offset, and its place */
     struct place place;
-    uint64_t since_at;  /* the same when `keep` was called last: places behind it can still be worked out */
-    struct place since;
+    uint64_t plain_to;  /* characters of ASCII, without line feeds, are between that offset and this one */
     bool is_away;       /* libxml2 reads the external DTD, and the parser's first input is that (`away_at`: where it is in the document) */
     uint64_t away_at;
     uint64_t markup;    /* the offset after the blanks at `next`, as far as they are known */
@@ -67,7 +66,6 @@ struct feed {
     size_t most_attributes; /* that a tag may have, with declarations; the same for the choices of a list in an entity: libxml2 compares them in pairs */
     size_t defaults;    /* the bytes that are kept of namespaces by default */
     size_t kept;        /* the bytes that the receiver keeps, when it was asked last */
-    void (*keep)(void *context);        /* is called before text that was read is forgotten */
     void (*before_read)(void *context); /* is called before more of the document is read, which may take long */
     bool has_told_iconv;                /* that it has read something */
     void (*by_iconv)(void *context, const char *encoding); /* is called if it reads the document */
@@ -133,17 +131,19 @@ uint64_t feed_first(const struct feed *feed, uint64_t begin, const char *text);
 /* The place of an offset. Offsets before the last one that was asked for have its place. */
 struct place feed_place(struct feed *feed, uint64_t offset);
 
-/* The offset of a position. */
-uint64_t feed_offset_of(const struct feed *feed, struct position position);
+/* The offset of the first of so many bytes that is no blank; `offset` if all are. */
+uint64_t feed_behind_blanks(const struct feed *feed, uint64_t offset, size_t length);
 
-/* The place of an offset since the last call of feed_since, in any order. */
-struct place feed_earlier_place(struct feed *feed, uint64_t offset);
-
-/* A part of the text that is not forgotten. */
-struct span feed_text(const struct feed *feed, uint64_t offset, size_t length);
-
-/* Begins the part of the text whose places can be asked for in any order. */
-void feed_since(struct feed *feed);
+/* The same as feed_place, for an event. The other one is for an offset behind the characters that were looked at. */
+struct place feed_far_place(struct feed *feed, uint64_t offset);
+static inline struct place feed_event_place(struct feed *feed, uint64_t offset) {
+    if (offset < feed->place_at || offset > feed->plain_to) {
+        return feed_far_place(feed, offset);
+    }
+    feed->place.column += offset - feed->place_at;
+    feed->place_at = offset;
+    return feed->place;
+}
 
 /* Moves on: what is before the offset was read. */
 static inline void feed_move(struct feed *feed, uint64_t next) {

@@ -26,6 +26,7 @@ static void take_back(struct feed *feed) {
 /* Forgets what was found out of what libxml2 gets again: it is outside of other markup. */
 static void look_again(struct feed *feed) {
     feed->markup = 0;
+    feed->plain_to = 0;
     feed->section = (struct section){0};
     feed->scan = (struct tag_scan){0};
     shortening_look_again(&feed->shortening);

@@ -25,8 +25,8 @@ struct known_names {
     struct known_name slots[1 << KNOWN_BITS];
 };
 
-/* Works the name out, and keeps it if the texts are in the dictionary, which keeps them as long as the document is read. A name whose prefix is not declared is
- * not kept. `told` is what is told of the URI. */
+/* Works the name out. Its texts are in the dictionary then, which keeps them as long as the document is read. The name is kept if they were there, and its prefix
+ * is declared. `told` is what is told of the URI. NULL: out of memory. */
 const struct event_name *known_name_new(struct known_names *names, xmlDictPtr dictionary, const xmlChar *local, const xmlChar *prefix, const xmlChar *uri,
                                         struct span told);
 
