@@ -45,10 +45,6 @@ static void change(struct bytes *text) {
     }
 }
 
-struct place place_of(const struct position *position) {
-    return (struct place){position->at, 1};
-}
-
 static struct span span_of(const char *text) {
     return (struct span){text, strlen(text)};
 }
@@ -65,7 +61,8 @@ static void check_document(struct id_check *check) {
             struct event_name name = {span_of(chance(2) == 0 ? "" : "p"), span_of(names[chance(7)]), span_of(uris[chance(3)])};
             attributes[at] = (struct event_attribute){name, span_of(values[chance(7)])};
         }
-        struct start_event start = {.position = {NULL, tag, NULL}, .name = {span_of(""), span_of(names[chance(7)]), span_of(uris[chance(3)])}};
+        struct event_name own = {span_of(""), span_of(names[chance(7)]), span_of(uris[chance(3)])};
+        struct start_event start = {.place = {tag, 1}, .name = &own};
         start.attributes = attributes;
         start.attribute_count = count;
         if (!id_check_take(check, &start)) {

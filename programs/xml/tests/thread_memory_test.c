@@ -79,7 +79,7 @@ static void ignore_note(void *context, struct place place, const char *what) {
 static void convert_once(struct run *run) {
     *run = (struct run){.after = run->after};
     left = run->after;
-    convert(&(struct byte_source){give, run, NULL}, &(struct pyx_sink){take, ignore_note, run, false}, &run->fault);
+    convert(&(struct byte_source){give, run, NULL}, &(struct pyx_sink){take, ignore_note, run}, &run->fault);
     run->was_refused = run->after >= 0 && left < 0;
     left = -1;
 }
