@@ -28,7 +28,7 @@ INTEGERS = {"long": signed(64), "int": signed(32), "short": signed(16), "byte": 
             "nonPositiveInteger": (None, 0), "negativeInteger": (None, -1)}
 UNSIGNED = {"unsignedLong": (0, 2 ** 64 - 1), "unsignedInt": (0, 2 ** 32 - 1), "unsignedShort": (0, 2 ** 16 - 1), "unsignedByte": (0, 2 ** 8 - 1)}
 # The datatypes of IDs, and how a copy marks what it has instead: by the number of digits of a minLength with zeros in front, or by so many line feeds
-# before a value. `rncv-xml` reads the marks, and checks the IDs of documents (programs/xml/src/id_types.h).
+# before a value. `rncv-xml` reads the marks, and checks the IDs of documents (programs/xml/src/judging/id_types.h).
 ID_TYPES = {"ID": 9, "IDREF": 8, "IDREFS": 7}
 LOOKS_MARKED = "0[0-9]{6,8}"
 # Lists by the type of their items.

@@ -102,7 +102,7 @@ typedef struct rncv_reason {
 
 /* The kinds of a reason. */
 enum {
-    RNCV_REASON_NONE = 0,       /* it leaves something */
+    RNCV_REASON_NONE = 0,       /* it leaves something; of rncv_fault_reason: no reason is told */
     RNCV_REASON_ELEMENT = 1,    /* no element of the name may start, or each is one that nothing matches */
     RNCV_REASON_ATTRIBUTE = 2,  /* the attribute is the first one that nothing takes which is left by those before it: it is not allowed */
     RNCV_REASON_VALUE = 3,      /* the same, and an attribute of its name is left: its value is wrong */
@@ -293,7 +293,7 @@ int32_t rncv_events_start_reason(rncv_schema *schema, const uint8_t *uri, size_t
 int32_t rncv_events_end_reason(rncv_schema *schema, rncv_reason *reason);
 
 /* Asks for reasons of the document that is in progress, in PYX or as events: from now on it keeps the tag of a start after which no continuation is valid, its
- * name and its attributes with their values, for rncv_fault_reason. The tag is kept until the document ends, and no longer. Without this call none is. If no
+ * name and its attributes with their values, for rncv_fault_reason. The tag is kept until the document ends, and no longer. Each document begins without. If no
  * continuation is valid already, nothing changes. Allocates nothing.
  *
  * RNCV_MISUSE: no document is in progress. Only one thread at a time may use the handle. */

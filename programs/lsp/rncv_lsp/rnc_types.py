@@ -1,4 +1,4 @@
-"""The datatypes that `rncv-xml` serves, and their parameters, as programs/xml/src/schema_types.c has them."""
+"""The datatypes that `rncv-xml` serves, and their parameters, as programs/xml/src/schemas/schema_types.c has them."""
 from __future__ import annotations
 
 from typing import Dict, Iterable, Optional, Tuple
