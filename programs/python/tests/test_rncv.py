@@ -77,7 +77,7 @@ class Documents(unittest.TestCase):
                 self.assertEqual(self.judged(validator, (path / "document.pyx").read_bytes()), VALID)
 
     def test_letters(self):
-        reported = page("docs/use/LANGUAGE.md")
+        reported = page("README.md") + page("docs/use/LANGUAGE.md")
         self.assertIn("\nvalid\n", reported)
         document = (LETTER / "document.pyx").read_bytes()
         with rncv.compile(LETTER / "s.rnc") as validator:
