@@ -222,10 +222,11 @@ static size_t plain_run(struct span text, bool is_ascii) {
 
 struct place feed_far_place(struct feed *feed, uint64_t offset) {
     bool is_known = offset >= feed->place_at && feed->place_at >= feed->begin && offset <= end_of(feed) && feed->inclusions.part_count == 0;
-    feed->plain_to = is_known && feed->plain_to > feed->place_at ? feed->plain_to : feed->place_at;
     if (!is_known) {
+        feed->plain_to = 0; /* what is included has its own place at each offset */
         return feed_place(feed, offset);
     }
+    feed->plain_to = feed->plain_to > feed->place_at ? feed->plain_to : feed->place_at;
     while (feed->plain_to < offset) {
         pass_plain(feed, feed->plain_to);
         pass_others(feed, offset);
