@@ -35,8 +35,11 @@ OF_SCHEMAS = {
     "length": "jing takes `length` beside `minLength` or `maxLength`",
     "orders": "jing takes a `minLength` above the `maxLength`, and two bounds at one end",
     "fraction": "jing takes a `fractionDigits` of integers above 0",
+    "items": "jing takes a length of 0 of `NMTOKENS`, `IDREFS` and `ENTITIES`",
     "steps": "jing takes each parameter for a restriction of those before it, and wants that a bound suits them",
 }
+# a list type that may have no item
+NO_ITEM = re.compile(r'xsd:(NMTOKENS|IDREFS|ENTITIES) \{[^}]*\b(length|minLength|maxLength) = " *[+-]?0+ *"')
 ONE_END = ({"minInclusive", "minExclusive"}, {"maxInclusive", "maxExclusive"})
 # A type by whose name a difference has a reason, and what rncv-xml then says of a text.
 BY_TYPE = {"uri": (("anyURI",), "valid"), "prefix": (("QName", "NOTATION"), "valid"), "entity": (("ENTITY", "ENTITIES"), "valid")}
@@ -94,7 +97,7 @@ def reason_of_schema(pattern, ours, theirs):
     if ours != "S12":
         return None
     reasons = filter(None, map(reason_of_parameters, PARAMETERS.findall(pattern)))
-    return next(reasons, "prefix" if re.search("xsd:(QName|NOTATION) ['\"]", pattern) else None)
+    return next(reasons, "prefix" if re.search("xsd:(QName|NOTATION) ['\"]", pattern) else "items" if NO_ITEM.search(pattern) else None)
 
 
 def reason_of_parameters(group):
