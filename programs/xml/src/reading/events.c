@@ -120,7 +120,8 @@ static inline struct place raw_place(struct reader *reader, const xmlChar *text,
     return feed_event_place(&reader->feed, blanks < length ? begin + blanks : begin);
 }
 
-/* The place of another piece. Moves on behind it. Where the document has the piece as it is, its blanks are there too. */
+/* The place of another piece. Moves on behind it. Where the document has the piece as it is, its blanks are there too. An empty piece is not told, and
+ * where it is may be far behind the next event. */
 static struct place other_place(struct reader *reader, size_t length) {
     struct feed *feed = &reader->feed;
     uint64_t end = feed_offset(feed);
@@ -136,7 +137,7 @@ static struct place other_place(struct reader *reader, size_t length) {
         begin += feed_byte(feed, begin) == '<' ? strlen("<![CDATA[") : 0;
         feed_move(feed, end);
     }
-    return feed_place(feed, has_blanks ? feed_behind_blanks(feed, begin, length) : begin);
+    return length == 0 ? feed->place : feed_place(feed, has_blanks ? feed_behind_blanks(feed, begin, length) : begin);
 }
 
 /* Hands a piece of text to the receiver. */

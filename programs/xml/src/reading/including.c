@@ -61,6 +61,7 @@ void feed_include(struct feed *feed, const void *entity, struct span text, struc
         fault_set(feed->fault, FAULT_OUTSIDE, place, "over a limit of this program: shortened markup behind a long entity");
     }
     keep_later(feed, begin, &included);
+    feed->plain_to = 0; /* it was found in what comes later now */
     feed_move(feed, begin);
     look_again(feed);
     feed->included(feed->context);
