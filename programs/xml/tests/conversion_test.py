@@ -404,6 +404,14 @@ class LoadedDtd(Converted):
         self.assertEqual(self.loaded('<!DOCTYPE a [<!ENTITY % d SYSTEM "d.dtd">%d;<!ATTLIST a y CDATA "own">]><a/>'), ("(a\nAx dx\nAy own\n)a\n", "", 0))
         self.assertEqual(self.loaded('<!DOCTYPE a [<!ENTITY e SYSTEM "low%20er/chapter.xml"><!ENTITY ext "own">]><a>&e;</a>')[0].count("own"), 1)
 
+    def test_which_file_is_meant(self):
+        """An identifier is relative to the file in which its declaration is, also where that is in the text of an entity (XML 1.0, 4.2.2)."""
+        declared = "<!ENTITY % i \"<!ENTITY e SYSTEM 'near.xml'>\">%i;"
+        self.FILES = {**LoadedDtd.FILES, "low er/own.dtd": declared.encode(), "near.xml": b"another"}
+        for folder in (".", "low er"):
+            self.assertEqual(self.loaded('<!DOCTYPE a SYSTEM "low%20er/own.dtd"><a>&e;</a>', folder), ("(a\n-near\r!\n)a\n", "", 0))
+            self.assertEqual(self.loaded(f"<!DOCTYPE a [{declared}]><a>&e;</a>", folder), ("(a\n-another\n)a\n", "", 0))
+
     def test_what_is_not_read(self):
         self.write("large.dtd", b" " * 17_000_000)
         os.mkfifo(self.folder / "pipe")

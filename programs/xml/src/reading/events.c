@@ -1059,13 +1059,27 @@ static xmlChar *entity_text(struct reader *reader, const xmlChar *name, int type
     return is_long ? long_kept_text(reader, name, is_parameter, value, &written[0]) : kept_text(reader, type, value, &written[2]);
 }
 
+/* The file in which a declaration is: the text of an internal entity has none of its own (section 4.2.2). */
+static const char *nearest_file(const xmlParserCtxt *parser) {
+    int at = parser->inputNr - 1;
+    while (at > 0 && parser->inputTab[at]->filename == NULL) {
+        at--;
+    }
+    return at < 0 ? NULL : parser->inputTab[at]->filename;
+}
+
 static void take_entity(void *context, const xmlChar *name, int type, const xmlChar *public, const xmlChar *system, xmlChar *text) {
     struct reader *reader = context;
     struct bytes written[3] = {NO_BYTES, NO_BYTES, NO_BYTES};
     bool is_parameter = type == XML_INTERNAL_PARAMETER_ENTITY || type == XML_EXTERNAL_PARAMETER_ENTITY;
     bool is_first = is_parameter || xmlGetDocEntity(reader->feed.parser->myDoc, name) == NULL;
     check_long_name(reader, name);
-    xmlSAX2EntityDecl(reader->feed.parser, name, type, public, system, entity_text(reader, name, type, text, written));
+    xmlParserInputPtr input = reader->feed.parser->input;
+    const char *file = input->filename;
+    xmlChar *kept = entity_text(reader, name, type, text, written);
+    input->filename = nearest_file(reader->feed.parser);
+    xmlSAX2EntityDecl(reader->feed.parser, name, type, public, system, kept);
+    input->filename = file;
     for (size_t at = 0; at < sizeof written / sizeof *written; at++) {
         bytes_free(&written[at]);
     }
