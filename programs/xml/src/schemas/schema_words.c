@@ -3,6 +3,7 @@
 #include "schema_asked.h"
 #include "schema_hinting.h"
 #include "schema_types.h"
+#include "xml_names.h"
 
 #include <string.h>
 
@@ -225,23 +226,11 @@ static bool is_of_items(const struct type *type) {
     return strcmp(type->name, "NMTOKENS") == 0 || strcmp(type->name, "IDREFS") == 0 || strcmp(type->name, "ENTITIES") == 0;
 }
 
-/* The text without the blanks around it. */
-static struct span trimmed(struct span text) {
-    static const char blanks[] = " \t\r\n";
-    while (text.length > 0 && memchr(blanks, text.data[0], sizeof blanks - 1) != NULL) {
-        text = (struct span){text.data + 1, text.length - 1};
-    }
-    while (text.length > 0 && memchr(blanks, text.data[text.length - 1], sizeof blanks - 1) != NULL) {
-        text.length--;
-    }
-    return text;
-}
-
 /* Whether a text is an integer above the greatest that a length or a number of digits may be. */
 static bool is_above_counts(struct span written) {
     static const char greatest[] = "9223372036854775807";
     const size_t most = sizeof greatest - 1;
-    struct span text = trimmed(written);
+    struct span text = without_blanks(written);
     bool has_sign = text.length > 0 && text.data[0] == '+';
     struct span digits = {text.data + has_sign, text.length - has_sign};
     while (digits.length > 0 && digits.data[0] == '0') {
